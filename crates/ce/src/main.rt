@@ -1,7 +1,8 @@
-//! The program `ce`: it runs the script on standard input, and writes the report to standard output.
+//! The program `ce`: it runs the script on standard input, and writes the report to standard
+//! output.
 #![tactic(auto)]
 
-use ce_gate::Open;
+use ce_gate::OpenGate;
 use ce_io::{StdSink, StdSource};
 use ce_run::run_command;
 use std::env::Env;
@@ -19,7 +20,7 @@ fn main(rt: HostRuntime) -> ExitCode {
         &mut source,
         &mut sink,
         &mut errors,
-        &Open,
+        &OpenGate,
     );
     ExitCode::from(status)
 }

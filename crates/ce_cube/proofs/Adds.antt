@@ -1,4 +1,5 @@
--- A call of a cube that fits makes the next entry of the cube's trace, and changes no other node of it.
+-- A call of a cube that fits makes the next entry of the cube's trace, and changes no other node of
+-- it.
 use Rattle.std.proofs.Common.{◌≡◌, ◌⊎◌, ℕ, ◌&&◌, inl, inr, ◌^◌, ◌<◌, true, false, ◌==◌, IsSomeAnd, List, [], ◌∷◌, ◌++◌, Some, None, option_map, refl, ap, sym, ◌∙◌, subst}
 use Rattle.std.specs.Prelude.{is_some}
 use Rattle.std.proofs.lemmas.Bool.{both_ways, eq-eqb, ne_eqb}
@@ -12,7 +13,7 @@ use Rattle.ce_model.specs.Cube.{Cube, CubeState, opening, state, hoststore}
 use Rattle.ce_model.specs.Subcubes.{relative_number, node_of}
 use Rattle.ce_model.specs.Renaming.{number_outward, entry_inward}
 use Rattle.ce_model.specs.Views.{trace_behind, view}
-use Rattle.ce_model.specs.Machine.{MachineParts, HeldCube, IsLawfulEntry, IsFitting, IsCallOf, in_cube, what_of_request, after, cube_held_by, cube_after_entry, with_cube, record_by, state_after_entry, state_after_call, nodes_of, cube_standing, with_places_outward, cube_of}
+use Rattle.ce_model.specs.Machine.{MachineParts, HeldCube, IsLawfulEntry, IsFitting, IsCallOf, cube_request, what_of_request, after, cube_held_by, cube_after_entry, with_cube, record_after_entry, state_after_entry, state_after_call, nodes_of, cube_standing, with_places_outward, cube_of}
 use Rattle.ce_model.proofs.Walked.{each-more}
 use Rattle.ce_model.proofs.OneMore.{state-more, hoststore-more}
 use Rattle.ce_solo.proofs.Projection.Views.{found-more, trace-grows, trace-stays, view-is}
@@ -22,23 +23,23 @@ use Rattle.ce_solo.proofs.Projection.Invariant.{other_way}
 use Rattle.ce_solo.proofs.Projection.Own.{IsOwnEntry, actor_back}
 use Rattle.ce_solo.proofs.Projection.Law.{projected, after-more, own-called, lawful-entry}
 use Rattle.ce_solo.proofs.Projection.Kinds.{and_false}
-use Rattle.ce_cube.specs.Boxes.{trace_node, IsMadeBy, IsOneMore, IsAside}
+use Rattle.ce_cube.specs.Boxes.{trace_node, IsCubeCallEntry, IsNextCubeEntry, IsAside}
 use Rattle.ce_cube.specs.Laws.{CallsAdd, OthersKeep}
 use Rattle.ce_cube.proofs.Held.{IsSeen, by_seen}
 
 -- the entry of a call that fits is lawful
-lawful_entry : (parts : MachineParts) (history : List Entry) (user actor : ℕ) (call : Call) (entry : Entry) → IsFitting parts history user actor (in_cube call)
-    → entry.user ≡ user → entry.actor ≡ actor → what_of_request parts (after history) user actor (in_cube call) ≡ Some entry.what → IsLawfulEntry parts history entry
+lawful_entry : (parts : MachineParts) (history : List Entry) (user actor : ℕ) (call : Call) (entry : Entry) → IsFitting parts history user actor (cube_request call)
+    → entry.user ≡ user → entry.actor ≡ actor → what_of_request parts (after history) user actor (cube_request call) ≡ Some entry.what → IsLawfulEntry parts history entry
 lawful_entry parts history user actor call entry fits user_is actor_is what = record {
-  request = in_cube call;
-  fits = subst (λ u. IsFitting parts history u entry.actor (in_cube call)) (sym user_is) (subst (λ a. IsFitting parts history user a (in_cube call)) (sym actor_is) fits);
-  answer = subst (λ u. what_of_request parts (after history) u entry.actor (in_cube call) ≡ Some entry.what) (sym user_is)
-      (subst (λ a. what_of_request parts (after history) user a (in_cube call) ≡ Some entry.what) (sym actor_is) what);
+  request = cube_request call;
+  fits = subst (λ u. IsFitting parts history u entry.actor (cube_request call)) (sym user_is) (subst (λ a. IsFitting parts history user a (cube_request call)) (sym actor_is) fits);
+  answer = subst (λ u. what_of_request parts (after history) u entry.actor (cube_request call) ≡ Some entry.what) (sym user_is)
+      (subst (λ a. what_of_request parts (after history) user a (cube_request call) ≡ Some entry.what) (sym actor_is) what);
 }
 
 -- the entry has the call's answer in the cube that is held
 pub answer-made : (parts : MachineParts) (history : List Entry) (cube : HeldCube) (actor : ℕ) (call : Call) (entry : Entry) → cube_held_by (after history) cube.grant.user ≡ Some cube
-    → IsMadeBy parts history cube.grant actor call entry
+    → IsCubeCallEntry parts history cube.grant actor call entry
     → answer (nodes_of cube.grant) (cube_standing (after history) cube) actor (with_places_outward cube.grant call) ≡ entry.what
 answer-made parts history cube actor call entry holds made =
     some_what _ _ (ap (option_map (λ (one : HeldCube). answer (nodes_of one.grant) (cube_standing (after history) one) actor (with_places_outward one.grant call))) (sym holds) ∙ made.what)
@@ -55,7 +56,7 @@ pub state-other : (cube : Cube) (r : ℕ) (t : List Entry) (entry : Entry) → (
 state-other cube r t entry other = rw other at (state-more cube (opening cube) r t entry)
 
 module _ (parts : MachineParts) (history : List Entry) (cube : HeldCube) (now : IsSeen parts history cube) (actor : ℕ) (call : Call) (entry : Entry)
-    (fits : IsFitting parts history cube.grant.user actor (in_cube call)) (made : IsMadeBy parts history cube.grant actor call entry) where
+    (fits : IsFitting parts history cube.grant.user actor (cube_request call)) (made : IsCubeCallEntry parts history cube.grant actor call entry) where
   abbrev h' : List Entry
   h' = history ++ entry ∷ []
 
@@ -80,8 +81,8 @@ module _ (parts : MachineParts) (history : List Entry) (cube : HeldCube) (now : 
   held_next : cube_held_by (after h') cube.grant.user ≡ Some (cube_after_entry entry cube)
   held_next =
       ap (λ state. cube_held_by state cube.grant.user) (after-more history entry ∙ ap (λ call. state_after_call call entry (after history)) own.called)
-      ∙ ap (cube_held_by (with_cube entry.user (cube_after_entry entry) (λ cube. record_by cube.grant.sub entry) (after history))) (sym made.user)
-      ∙ held-own entry.user (cube_after_entry entry) (λ cube. refl) (λ cube. record_by cube.grant.sub entry) (after history) cube holds_now
+      ∙ ap (cube_held_by (with_cube entry.user (cube_after_entry entry) (λ cube. record_after_entry cube.grant.sub entry) (after history))) (sym made.user)
+      ∙ held-own entry.user (cube_after_entry entry) (λ cube. refl) (λ cube. record_after_entry cube.grant.sub entry) (after history) cube holds_now
 
   pub trace_next : view h' cube.number ≡ view history cube.number ++ entry_inward cube.grant.sub entry ∷ []
   trace_next =
@@ -108,7 +109,7 @@ module _ (parts : MachineParts) (history : List Entry) (cube : HeldCube) (now : 
   no_host_inner other =
       ne_eqb _ _ (λ same. both_ways _ other (eq-eqb _ _ (actor_back parts.dim cube.grant now.placed entry.actor call-of.inside ∙ ap (number_outward cube.grant.sub) same)))
 
-  pub one-more : IsOneMore parts history cube.number cube.grant entry
+  pub one-more : IsNextCubeEntry parts history cube.number cube.grant entry
   one-more = record {
     lawful = each-more (IsLawfulEntry parts) history entry now.lawful
         (lawful_entry parts history cube.grant.user actor call entry fits made.user made.actor_is made.what);
@@ -124,8 +125,8 @@ module _ (parts : MachineParts) (history : List Entry) (cube : HeldCube) (now : 
 pub calls-add : CallsAdd
 calls-add parts history number grant machine lawful held actor call entry fits made =
     by_seen
-    (λ number grant. IsFitting parts history grant.user actor (in_cube call) → IsMadeBy parts history grant actor call entry
-    → IsOneMore parts history number grant entry) parts history number grant machine lawful
+    (λ number grant. IsFitting parts history grant.user actor (cube_request call) → IsCubeCallEntry parts history grant actor call entry
+    → IsNextCubeEntry parts history number grant entry) parts history number grant machine lawful
     (λ cube now fits made. one-more parts history cube now actor call entry fits made) held fits made
 
 -- ---- entries that are none of the cube

@@ -13,7 +13,7 @@ use Rattle.ce_model.specs.Answers.{recorded_call}
 use Rattle.ce_model.specs.Subcubes.{extract, node_of, is_inside}
 use Rattle.ce_model.specs.Renaming.{CubeGrant, entry_inward}
 use Rattle.ce_model.specs.Views.{view, cube_entries}
-use Rattle.ce_model.specs.Machine.{MachineParts, IsMachine, HeldCube, IsLawful, IsLawfulEntry, IsFitting, Request, peek, in_cube, what_of_request, after, cube_held_by}
+use Rattle.ce_model.specs.Machine.{MachineParts, IsMachine, HeldCube, IsLawful, IsLawfulEntry, IsFitting, Request, peek, cube_request, what_of_request, after, cube_held_by}
 use Rattle.ce_model.proofs.Subcubes.{node_of-extract}
 use Rattle.ce_model.proofs.Walked.{each_behind, each-more}
 use Rattle.ce_lock.proofs.Histories.{of_actor, own_append}
@@ -22,8 +22,8 @@ use Rattle.ce_machine.specs.Keeping.{alone-answered}
 use Rattle.ce_solo.proofs.Lists.{all-append}
 use Rattle.ce_solo.proofs.Projection.Numbers.{inside_below}
 use Rattle.ce_solo.proofs.Projection.Kinds.{and_false}
-use Rattle.ce_cube.specs.Boxes.{IsHeldAs, trace_node, trace_store, IsMadeBy, IsOneMore, IsAside}
-use Rattle.ce_cube.specs.Beside.{actor_entries, AreNotMadeAlone, IsByHostOrNode, IsHeldBeside}
+use Rattle.ce_cube.specs.Boxes.{IsHeldAs, trace_node, trace_store, IsCubeCallEntry, IsNextCubeEntry, IsAside}
+use Rattle.ce_cube.specs.Beside.{actor_entries, AreNotMadeAlone, IsByHostOrNode, AreEntriesBeside}
 use Rattle.ce_cube.specs.Laws.{BesideKeeps}
 use Rattle.ce_cube.proofs.Held.{seen, by_cube}
 use Rattle.ce_cube.proofs.Adds.{call-of, is-called, one-more, others-keep}
@@ -41,7 +41,7 @@ calls-append grant xs ys =
     ∙ map-append (entry_inward grant.sub) (filter is_call xs) (filter is_call ys)
 
 module _ (parts : MachineParts) (history : List Entry) (number : ℕ) (grant : CubeGrant) where
-  none-beside : IsHeldAs history number grant → IsHeldBeside parts history number grant []
+  none-beside : IsHeldAs history number grant → AreEntriesBeside parts history number grant []
   none-beside held =
       let same = append-nil history in
       record {
@@ -58,8 +58,8 @@ module _ (parts : MachineParts) (history : List Entry) (number : ℕ) (grant : C
       nil-parts (actor_entries grant.user actor front) (actor_entries grant.user actor rest)
       (sym (own_append whose (record { family = grant.user; actor = actor }) front rest) ∙ none)
 
-  pub both-beside : (front rest : List Entry) → IsHeldBeside parts history number grant front
-      → IsHeldBeside parts (history ++ front) number grant rest → IsHeldBeside parts history number grant (front ++ rest)
+  pub both-beside : (front rest : List Entry) → AreEntriesBeside parts history number grant front
+      → AreEntriesBeside parts (history ++ front) number grant rest → AreEntriesBeside parts history number grant (front ++ rest)
   both-beside front rest first next =
       let same = append_assoc history front rest in
       record {
@@ -89,7 +89,7 @@ some-of user actor entry user_is actor_is none =
 module _ (parts : MachineParts) (history : List Entry) (machine : IsMachine parts) (lawful : IsLawful parts history) (cube : HeldCube)
     (holds : cube_held_by (after history) cube.grant.user ≡ Some cube) (goes : cube.is_drained ≡ false) (entry : Entry) (is : IsLawfulEntry parts history entry) where
   abbrev IsKept : Type 0
-  IsKept = IsHeldBeside parts history cube.number cube.grant (entry ∷ [])
+  IsKept = AreEntriesBeside parts history cube.number cube.grant (entry ∷ [])
 
   -- it is none of the cube's calls
   none-kept : IsAside parts history cube.number cube.grant entry → (entry.user == cube.grant.user && is_some (recorded_call entry.what)) ≡ false
@@ -109,9 +109,9 @@ module _ (parts : MachineParts) (history : List Entry) (machine : IsMachine part
   kept-aside : ((entry.user == cube.grant.user) ≡ false) ⊎ (entry.what ≡ Peek) → IsAside parts history cube.number cube.grant entry
   kept-aside = others-keep parts history cube.number cube.grant machine lawful held-now entry is
 
-  module _ (own : entry.user ≡ cube.grant.user) (call : Call) (fits : IsFitting parts history cube.grant.user entry.actor (in_cube call))
-      (made : IsMadeBy parts history cube.grant entry.actor call entry) where
-    abbrev more : IsOneMore parts history cube.number cube.grant entry
+  module _ (own : entry.user ≡ cube.grant.user) (call : Call) (fits : IsFitting parts history cube.grant.user entry.actor (cube_request call))
+      (made : IsCubeCallEntry parts history cube.grant entry.actor call entry) where
+    abbrev more : IsNextCubeEntry parts history cube.number cube.grant entry
     more = one-more parts history cube (seen parts history cube machine lawful holds goes) entry.actor call entry fits made
 
     called : is_some (recorded_call entry.what) ≡ true
@@ -161,9 +161,9 @@ module _ (parts : MachineParts) (history : List Entry) (machine : IsMachine part
   own-kept own beside peek fits e =
       let peeks : entry.what ≡ Peek = cc in
       none-kept (kept-aside (inr peeks)) (and_false _ _ (ap (λ what. is_some (recorded_call what)) peeks)) (λ same. inl fits.1)
-  own-kept own beside (in_cube call) fits e =
-      call-kept own call (subst (λ user. IsFitting parts history user entry.actor (in_cube call)) own fits)
-      (record { user = own; actor_is = refl; what = subst (λ user. what_of_request parts (after history) user entry.actor (in_cube call) ≡ Some entry.what) own e })
+  own-kept own beside (cube_request call) fits e =
+      call-kept own call (subst (λ user. IsFitting parts history user entry.actor (cube_request call)) own fits)
+      (record { user = own; actor_is = refl; what = subst (λ user. what_of_request parts (after history) user entry.actor (cube_request call) ≡ Some entry.what) own e })
   own-kept own beside alone fits e =
       absurd (both_ways _ beside (alone-answered parts (after history) entry.user entry.actor alone entry.what e))
 
@@ -179,13 +179,13 @@ module _ (parts : MachineParts) (history : List Entry) (machine : IsMachine part
 
 module _ (parts : MachineParts) (machine : IsMachine parts) (number : ℕ) (grant : CubeGrant) where
   one-beside : (history : List Entry) (entry : Entry) → IsLawful parts history → IsHeldAs history number grant → IsLawfulEntry parts history entry
-      → (entry.user ≡ grant.user → is_alone_entry entry ≡ false) → IsHeldBeside parts history number grant (entry ∷ [])
+      → (entry.user ≡ grant.user → is_alone_entry entry ≡ false) → AreEntriesBeside parts history number grant (entry ∷ [])
   one-beside history entry lawful held is beside =
-      by_cube (λ number grant. (entry.user ≡ grant.user → is_alone_entry entry ≡ false) → IsHeldBeside parts history number grant (entry ∷ [])) history number grant
+      by_cube (λ number grant. (entry.user ≡ grant.user → is_alone_entry entry ≡ false) → AreEntriesBeside parts history number grant (entry ∷ [])) history number grant
       (λ cube holds goes. one-kept parts history machine lawful cube holds goes entry is) held beside
 
   each-beside : (history more : List Entry) → IsLawful parts history → IsHeldAs history number grant → EachAfter (IsLawfulEntry parts) history more
-      → AreNotMadeAlone grant.user more → IsHeldBeside parts history number grant more
+      → AreNotMadeAlone grant.user more → AreEntriesBeside parts history number grant more
   each-beside history [] lawful held each beside = none-beside parts history number grant held
   each-beside history (entry ∷ more) lawful held each beside =
       let one = one-beside history entry lawful held each.0 beside.0 in

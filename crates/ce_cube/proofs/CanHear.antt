@@ -1,5 +1,5 @@
--- The box of a node that made an entry can hear the answer, which is one to its call; and by each call that asks for no work its turn
--- comes nearer to its end.
+-- The box of a node that made an entry can hear the answer, which is one to its call; and by each
+-- call that asks for no work its turn comes nearer to its end.
 use Rattle.std.proofs.Common.{◌≡◌, ◌⊎◌, ℕ, ◌^◌, ◌<◌, Bool, true, false, if◌then◌else◌, List, map, Option, Some, None, refl, ap, sym, ◌∙◌, subst, inl, inr, arith}
 use Rattle.std.specs.Prelude.{IsFalse}
 use Rattle.std.proofs.lemmas.Bool.{both_ways}
@@ -9,8 +9,8 @@ use Rattle.ce_model.specs.declared.topology.Place.{Place}
 use Rattle.ce_model.specs.declared.entry.Entry.{Entry}
 use Rattle.ce_model.specs.declared.entry.What.{What}
 use Rattle.ce_model.specs.declared.entry.What.TheVariants as whats
-use Rattle.ce_model.specs.declared.entry.KillFound.{KillFound}
-use Rattle.ce_model.specs.declared.entry.KillFound.TheVariants as kill_found
+use Rattle.ce_model.specs.declared.entry.KillResult.{KillResult}
+use Rattle.ce_model.specs.declared.entry.KillResult.TheVariants as kill_result
 use Rattle.ce_model.specs.declared.entry.TakeResult.{TakeResult}
 use Rattle.ce_model.specs.declared.entry.TakeResult.TheVariants as take_result
 use Rattle.ce_model.specs.Parcels.{Item}
@@ -26,15 +26,15 @@ use Rattle.ce_model.specs.Renaming.{block_outward, renamed_what, renamed_call_bl
 use Rattle.ce_model.specs.Views.{view}
 use Rattle.ce_model.specs.Machine.{MachineParts, HeldCube, after, nodes_of, cube_standing, with_places_outward, cube_of}
 use Rattle.rk_mail.specs.declared.talk.Hearing as program
-use Rattle.rk_mail.specs.declared.talk.Hearing.TheVariants as hearing
-use Rattle.rk_mail.specs.Talk.{hearing_model, is_of_take, IsAnswerTo, IsGiven, kill_hearing, IsHeardIn}
+use Rattle.rk_mail.specs.declared.talk.Hearing.TheVariants as hearings
+use Rattle.rk_mail.specs.Talk.{hearing_model, is_take_hearing, IsAnswerTo, IsHearingOfTake, kill_hearing, IsHearingOfEntry}
 use Rattle.ce_script.specs.Rounds.{asks_for_work}
 use Rattle.ce_solo.proofs.Words.{HasMadeCall}
 use Rattle.ce_solo.proofs.Made.{by_node}
 use Rattle.ce_solo.proofs.Projection.Numbers.{what_outward, out_node}
 use Rattle.ce_solo.proofs.Projection.Answers.{answer-outward}
 use Rattle.ce_solo.proofs.Projection.Calls.{call-in, made-within}
-use Rattle.ce_cube.specs.Boxes.{trace_node, IsStandIn, IsSaidBy, IsMadeBy, IsHeardByNode}
+use Rattle.ce_cube.specs.Boxes.{trace_node, IsStandIn, IsSaidBy, IsCubeCallEntry, IsHearingOfNode}
 use Rattle.ce_cube.specs.Hearable.{HasAnswerableTurn, IsHearable, IsRightAnswer, turn_calls_left, calls_left}
 use Rattle.ce_cube.specs.Laws.{BoxesCanHear, TurnsEnd}
 use Rattle.ce_cube.proofs.Held.{IsSeen, by_seen}
@@ -56,34 +56,34 @@ hearing_of_entry-renamed place block items (whats.Spawn pid image to fresh) = re
 hearing_of_entry-renamed place block items (whats.Kill pid to found) = refl
 hearing_of_entry-renamed place block items other = refl
 
-given-answers : (items : List Item) (given : TakeResult) (heard : program.Hearing) → IsGiven items given heard → is_of_take heard ≡ true
-given-answers items (take_result.Start pid image) heard is = ap is_of_take is
-given-answers items (take_result.Mail pid number) heard is = ap is_of_take is.1
-given-answers items (take_result.Kill pid) heard is = ap is_of_take is
-given-answers items (take_result.Poll pid) heard is = ap is_of_take is
-given-answers items take_result.Idle heard is = ap is_of_take is
-given-answers items take_result.Spent heard is = ap is_of_take is
+given-answers : (items : List Item) (given : TakeResult) (hearing : program.Hearing) → IsHearingOfTake items given hearing → is_take_hearing hearing ≡ true
+given-answers items (take_result.Start pid image) hearing is = ap is_take_hearing is
+given-answers items (take_result.Mail pid number) hearing is = ap is_take_hearing is.1
+given-answers items (take_result.Kill pid) hearing is = ap is_take_hearing is
+given-answers items (take_result.Poll pid) hearing is = ap is_take_hearing is
+given-answers items take_result.Idle hearing is = ap is_take_hearing is
+given-answers items take_result.Spent hearing is = ap is_take_hearing is
 
-fresh-answers : (fresh : Bool) (heard : program.Hearing) → heard ≡ (if fresh then hearing.Spawned else hearing.Used) → (heard ≡ hearing.Spawned) ⊎ (heard ≡ hearing.Used)
-fresh-answers true heard is = inl is
-fresh-answers false heard is = inr is
+fresh-answers : (fresh : Bool) (hearing : program.Hearing) → hearing ≡ (if fresh then hearings.Spawned else hearings.Used) → (hearing ≡ hearings.Spawned) ⊎ (hearing ≡ hearings.Used)
+fresh-answers true hearing is = inl is
+fresh-answers false hearing is = inr is
 
-kill-answers : (found : KillFound) (heard : program.Hearing) → heard ≡ kill_hearing found → (heard ≡ hearing.Killed) ⊎ ((heard ≡ hearing.Unused) ⊎ (heard ≡ hearing.Already))
-kill-answers kill_found.Killed heard is = inl is
-kill-answers kill_found.Unused heard is = inr (inl is)
-kill-answers kill_found.Already heard is = inr (inr is)
+kill-answers : (found : KillResult) (hearing : program.Hearing) → hearing ≡ kill_hearing found → (hearing ≡ hearings.Killed) ⊎ ((hearing ≡ hearings.Unused) ⊎ (hearing ≡ hearings.Already))
+kill-answers kill_result.Killed hearing is = inl is
+kill-answers kill_result.Unused hearing is = inr (inl is)
+kill-answers kill_result.Already hearing is = inr (inr is)
 
-call-answers : (place : Place → Place) (block rename : BlockId → BlockId) (nodes : List ℕ) (standing : Standing) (r : ℕ) (items : List Item) (call : Call) (heard : program.Hearing)
-    → IsHeardIn items (renamed_what place block (answer nodes standing r call)) heard → IsAnswerTo (renamed_call_blocks rename call) heard
+call-answers : (place : Place → Place) (block rename : BlockId → BlockId) (nodes : List ℕ) (standing : Standing) (r : ℕ) (items : List Item) (call : Call) (hearing : program.Hearing)
+    → IsHearingOfEntry items (renamed_what place block (answer nodes standing r call)) hearing → IsAnswerTo (renamed_call_blocks rename call) hearing
 unfolding answer
-call-answers place block rename nodes standing r items (take_call asking dead poller) heard is = given-answers items _ heard is
-call-answers place block rename nodes standing r items (send_call pid to bytes) heard is = is
-call-answers place block rename nodes standing r items (spawn_call pid image to) heard is = fresh-answers _ heard is
-call-answers place block rename nodes standing r items (kill_call pid to) heard is = kill-answers _ heard is
-call-answers place block rename nodes standing r items (note_call pid word) heard is = is
-call-answers place block rename nodes standing r items (arm_call count) heard is = absurd is
-call-answers place block rename nodes standing r items look_call heard is = absurd is
-call-answers place block rename nodes standing r items mail_call heard is = absurd is
+call-answers place block rename nodes standing r items (take_call asking dead poller) hearing is = given-answers items _ hearing is
+call-answers place block rename nodes standing r items (send_call pid to bytes) hearing is = is
+call-answers place block rename nodes standing r items (spawn_call pid image to) hearing is = fresh-answers _ hearing is
+call-answers place block rename nodes standing r items (kill_call pid to) hearing is = kill-answers _ hearing is
+call-answers place block rename nodes standing r items (note_call pid word) hearing is = is
+call-answers place block rename nodes standing r items (arm_call count) hearing is = absurd is
+call-answers place block rename nodes standing r items look_call hearing is = absurd is
+call-answers place block rename nodes standing r items mail_call hearing is = absurd is
 
 -- ---- a node of a sound cube
 
@@ -125,7 +125,7 @@ turn-kept images rename node nodes standing r items mail_call other = refl
 
 module _ (parts : MachineParts) (history : List Entry) (cube : HeldCube) (now : IsSeen parts history cube) (r : ℕ) (below : r < 2 ^ cube.grant.dim) (box : Node)
     (stands : IsStandIn cube.grant (trace_node parts history cube.number cube.grant r) box) (entry : Entry)
-    (made : IsMadeBy parts history cube.grant (node_of cube.grant.sub r) (says box).call entry) where
+    (made : IsCubeCallEntry parts history cube.grant (node_of cube.grant.sub r) (says box).call entry) where
   abbrev own : Cube
   own = cube_of parts.images cube.grant
 
@@ -151,7 +151,7 @@ module _ (parts : MachineParts) (history : List Entry) (cube : HeldCube) (now : 
       ∙ answer-outward parts.dim cube.grant now.placed (cube_standing (after history) cube) s.standing now.standing r call (inl below)
       (call-in cube.grant.dim call (made-within own s now.of now.stands.sound r None call (by_node below refl)))
 
-  module _ (heard : program.Hearing) (is : IsHeardByNode history cube.grant r entry.what heard) where
+  module _ (hearing : program.Hearing) (is : IsHearingOfNode history cube.grant r entry.what hearing) where
     abbrev items : List Item
     items = (s.standing.node_record r).waiting_items
 
@@ -159,19 +159,19 @@ module _ (parts : MachineParts) (history : List Entry) (cube : HeldCube) (now : 
     abbrev outward : List Item
     outward = map (renamed_item (block_outward cube.grant)) items
 
-    heard_own : IsHeardIn outward entry.what heard
-    heard_own = heard-own parts history cube now r below box stands entry heard is
+    heard_own : IsHearingOfEntry outward entry.what hearing
+    heard_own = heard-own parts history cube now r below box stands entry hearing is
 
-    heard_is : hearing_model heard ≡ renamed_hearing (block_outward cube.grant) (hearing_of_entry items inner)
+    heard_is : hearing_model hearing ≡ renamed_hearing (block_outward cube.grant) (hearing_of_entry items inner)
     heard_is =
-        reply-heard (block_outward cube.grant) (λ place. place) (λ id. id) items entry.what heard heard_own
+        reply-heard (block_outward cube.grant) (λ place. place) (λ id. id) items entry.what hearing heard_own
         ∙ ap (renamed_hearing (block_outward cube.grant)) (hearing_of_entry-renamed (λ place. place) (λ id. id) items entry.what ∙ ap (hearing_of_entry items) entry-is
         ∙ hearing_of_entry-renamed _ _ items inner)
 
-    right-answer : IsRightAnswer parts.images (says box) heard
+    right-answer : IsRightAnswer parts.images (says box) hearing
     right-answer = record {
-      answers = subst (λ call. IsAnswerTo call heard) (sym said.call)
-          (call-answers _ _ (block_outward cube.grant) (node_numbers cube.grant.dim) s.standing r outward call heard (subst (λ what. IsHeardIn outward what heard) entry-is heard_own));
+      answers = subst (λ call. IsAnswerTo call hearing) (sym said.call)
+          (call-answers _ _ (block_outward cube.grant) (node_numbers cube.grant.dim) s.standing r outward call hearing (subst (λ what. IsHearingOfEntry outward what hearing) entry-is heard_own));
       hearable = subst (IsHearable parts.images (says box).node) (sym heard_is) (subst (λ node. IsHearable parts.images node (renamed_hearing (block_outward cube.grant) (hearing_of_entry items inner)))
           (sym said.at_rest)
           (hearable-outward parts.dim cube.grant now.placed (says (s.node r)).node (rest-blocks parts history cube now r below) parts.images (hearing_of_entry items inner)
@@ -181,9 +181,9 @@ module _ (parts : MachineParts) (history : List Entry) (cube : HeldCube) (now : 
 
     -- ---- the turn
 
-    turn_behind : asks_for_work call ≡ false → (node_after_hearing parts.images (says box).node (hearing_model heard)).turn ≡ (says (s.node r)).node.turn
+    turn_behind : asks_for_work call ≡ false → (node_after_hearing parts.images (says box).node (hearing_model hearing)).turn ≡ (says (s.node r)).node.turn
     turn_behind other =
-        ap (λ heard. (node_after_hearing parts.images (says box).node heard).turn) heard_is
+        ap (λ hearing. (node_after_hearing parts.images (says box).node hearing).turn) heard_is
         ∙ turn-kept parts.images (block_outward cube.grant) (says box).node (node_numbers cube.grant.dim) s.standing r items call other
         ∙ ap (λ (node : Node). node.turn) said.at_rest
 
@@ -191,7 +191,7 @@ module _ (parts : MachineParts) (history : List Entry) (cube : HeldCube) (now : 
     box_turn other box (inl same) = ap (λ (node : Node). node.turn) same
     box_turn other box (inr step) = absurd (both_ways _ other step.asks)
 
-    turn-ends : IsFalse (asks_for_work (says box).call) → calls_left (node_after_hearing parts.images (says box).node (hearing_model heard)) < calls_left box
+    turn-ends : IsFalse (asks_for_work (says box).call) → calls_left (node_after_hearing parts.images (says box).node (hearing_model hearing)) < calls_left box
     turn-ends no_work =
         let other : asks_for_work call ≡ false = sym (asks-renamed (block_outward cube.grant) call) ∙ ap asks_for_work (sym said.call) ∙ no_work in
         let calling = says-calling (s.node r) other in
@@ -204,17 +204,17 @@ module _ (parts : MachineParts) (history : List Entry) (cube : HeldCube) (now : 
         )
 
 pub boxes-can-hear : BoxesCanHear
-boxes-can-hear parts history number grant machine lawful held r box entry heard below stands made is =
+boxes-can-hear parts history number grant machine lawful held r box entry hearing below stands made is =
     by_seen
     (λ number grant. r < 2 ^ grant.dim → IsStandIn grant (trace_node parts history number grant r) box
-    → IsMadeBy parts history grant (node_of grant.sub r) (says box).call entry → IsHeardByNode history grant r entry.what heard
-    → IsRightAnswer parts.images (says box) heard) parts history number grant machine lawful
-    (λ cube now below stands made is. right-answer parts history cube now r below box stands entry made heard is) held below stands made is
+    → IsCubeCallEntry parts history grant (node_of grant.sub r) (says box).call entry → IsHearingOfNode history grant r entry.what hearing
+    → IsRightAnswer parts.images (says box) hearing) parts history number grant machine lawful
+    (λ cube now below stands made is. right-answer parts history cube now r below box stands entry made hearing is) held below stands made is
 
 pub turns-end : TurnsEnd
-turns-end parts history number grant machine lawful held r box entry heard below stands made is =
+turns-end parts history number grant machine lawful held r box entry hearing below stands made is =
     by_seen
     (λ number grant. r < 2 ^ grant.dim → IsStandIn grant (trace_node parts history number grant r) box
-    → IsMadeBy parts history grant (node_of grant.sub r) (says box).call entry → IsHeardByNode history grant r entry.what heard
-    → IsFalse (asks_for_work (says box).call) → calls_left (node_after_hearing parts.images (says box).node (hearing_model heard)) < calls_left box) parts history number grant machine lawful
-    (λ cube now below stands made is. turn-ends parts history cube now r below box stands entry made heard is) held below stands made is
+    → IsCubeCallEntry parts history grant (node_of grant.sub r) (says box).call entry → IsHearingOfNode history grant r entry.what hearing
+    → IsFalse (asks_for_work (says box).call) → calls_left (node_after_hearing parts.images (says box).node (hearing_model hearing)) < calls_left box) parts history number grant machine lawful
+    (λ cube now below stands made is. turn-ends parts history cube now r below box stands entry made hearing is) held below stands made is

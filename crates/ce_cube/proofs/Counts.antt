@@ -5,8 +5,8 @@ use Rattle.ce_model.specs.declared.topology.Place.{Place}
 use Rattle.ce_model.specs.declared.entry.Entry.{Entry}
 use Rattle.ce_model.specs.declared.entry.What.{What}
 use Rattle.ce_model.specs.declared.entry.What.TheVariants as whats
-use Rattle.ce_model.specs.declared.entry.KillFound.{KillFound}
-use Rattle.ce_model.specs.declared.entry.KillFound.TheVariants as kill_found
+use Rattle.ce_model.specs.declared.entry.KillResult.{KillResult}
+use Rattle.ce_model.specs.declared.entry.KillResult.TheVariants as kill_result
 use Rattle.ce_model.specs.declared.entry.TakeResult.{TakeResult}
 use Rattle.ce_model.specs.declared.entry.TakeResult.TheVariants as take_result
 use Rattle.ce_model.specs.Parcels.{Item}
@@ -21,11 +21,11 @@ use Rattle.ce_model.specs.Views.{view}
 use Rattle.ce_model.specs.Machine.{MachineParts, HeldCube, cube_of}
 use Rattle.ce_model.proofs.OneMore.{armed-more, dispatched-more}
 use Rattle.rk_mail.specs.declared.talk.Hearing.{Hearing}
-use Rattle.rk_mail.specs.Talk.{IsGiven, kill_hearing, IsHeardIn}
+use Rattle.rk_mail.specs.Talk.{IsHearingOfTake, kill_hearing, IsHearingOfEntry}
 use Rattle.ce_script.specs.Rounds.{is_take, is_dispatch, asks_for_work}
 use Rattle.ce_solo.proofs.Projection.Numbers.{relative_out}
-use Rattle.ce_cube.specs.Boxes.{trace_node, IsStandIn, IsMadeBy, IsHeardByNode}
-use Rattle.ce_cube.specs.Rounds.{is_work_heard, dispatches_left, IsEntryOf}
+use Rattle.ce_cube.specs.Boxes.{trace_node, IsStandIn, IsCubeCallEntry, IsHearingOfNode}
+use Rattle.ce_cube.specs.Rounds.{is_work_hearing, dispatches_left, IsEntryOfNode}
 use Rattle.ce_cube.specs.Laws.{EntriesCount, BoxesInStepEndTurns}
 use Rattle.ce_cube.proofs.Held.{IsSeen, by_seen, held-within}
 use Rattle.ce_cube.proofs.Says.{says-of, asks-renamed}
@@ -36,55 +36,55 @@ use Rattle.ce_cube.proofs.CanHear.{entry-is}
 -- ---- what is heard, and what its entry counts
 
 -- work that is given is work that is heard
-given-work : (items : List Item) (given : TakeResult) (heard : Hearing) → IsGiven items given heard → is_work given ≡ is_work_heard heard
-given-work items (take_result.Start pid image) heard is = sym (ap is_work_heard is)
-given-work items (take_result.Mail pid number) heard is = sym (ap is_work_heard is.1)
-given-work items (take_result.Kill pid) heard is = sym (ap is_work_heard is)
-given-work items (take_result.Poll pid) heard is = sym (ap is_work_heard is)
-given-work items take_result.Idle heard is = sym (ap is_work_heard is)
-given-work items take_result.Spent heard is = sym (ap is_work_heard is)
+given-work : (items : List Item) (given : TakeResult) (hearing : Hearing) → IsHearingOfTake items given hearing → is_work given ≡ is_work_hearing hearing
+given-work items (take_result.Start pid image) hearing is = sym (ap is_work_hearing is)
+given-work items (take_result.Mail pid number) hearing is = sym (ap is_work_hearing is.1)
+given-work items (take_result.Kill pid) hearing is = sym (ap is_work_hearing is)
+given-work items (take_result.Poll pid) hearing is = sym (ap is_work_hearing is)
+given-work items take_result.Idle hearing is = sym (ap is_work_hearing is)
+given-work items take_result.Spent hearing is = sym (ap is_work_hearing is)
 
 -- an entry counts so, by what was heard
-record IsCounted (what : What) (heard : Hearing) : Type 0 where
-  dispatch : (user actor : ℕ) → is_dispatch (record { user = user; actor = actor; what = what }) ≡ is_work_heard heard
+record IsCounted (what : What) (hearing : Hearing) : Type 0 where
+  dispatch : (user actor : ℕ) → is_dispatch (record { user = user; actor = actor; what = what }) ≡ is_work_hearing hearing
   allowed_dispatches : (count : ℕ) → allowed_dispatches_after count what ≡ count
-  made_dispatches : (count : ℕ) → made_dispatches_after count what ≡ count + (if is_work_heard heard then 1 else 0)
+  made_dispatches : (count : ℕ) → made_dispatches_after count what ≡ count + (if is_work_hearing hearing then 1 else 0)
 
 taken-counts : (b : Bool) (count : ℕ) → (if b then count + 1 else count) ≡ count + (if b then 1 else 0)
 taken-counts true count = refl
 taken-counts false count = omega arith
 
-take-counts : (asking dead : ℕ) (poller : Option ℕ) (given : TakeResult) (heard : Hearing) → is_work given ≡ is_work_heard heard → IsCounted (whats.Take asking dead poller given) heard
-take-counts asking dead poller given heard work = record {
+take-counts : (asking dead : ℕ) (poller : Option ℕ) (given : TakeResult) (hearing : Hearing) → is_work given ≡ is_work_hearing hearing → IsCounted (whats.Take asking dead poller given) hearing
+take-counts asking dead poller given hearing work = record {
   dispatch = λ user actor. work;
   allowed_dispatches = λ count. refl;
-  made_dispatches = λ count. ap (λ b. if b then count + 1 else count) work ∙ taken-counts (is_work_heard heard) count;
+  made_dispatches = λ count. ap (λ b. if b then count + 1 else count) work ∙ taken-counts (is_work_hearing hearing) count;
 }
 
-no_work : (what : What) (heard : Hearing) → ((user actor : ℕ) → is_dispatch (record { user = user; actor = actor; what = what }) ≡ false) → ((count : ℕ) → allowed_dispatches_after count what ≡ count)
-    → ((count : ℕ) → made_dispatches_after count what ≡ count) → is_work_heard heard ≡ false → IsCounted what heard
-no_work what heard dispatch allowed_dispatches made_dispatches none = record {
+no_work : (what : What) (hearing : Hearing) → ((user actor : ℕ) → is_dispatch (record { user = user; actor = actor; what = what }) ≡ false) → ((count : ℕ) → allowed_dispatches_after count what ≡ count)
+    → ((count : ℕ) → made_dispatches_after count what ≡ count) → is_work_hearing hearing ≡ false → IsCounted what hearing
+no_work what hearing dispatch allowed_dispatches made_dispatches none = record {
   dispatch = λ user actor. dispatch user actor ∙ sym none;
   allowed_dispatches = allowed_dispatches;
   made_dispatches = λ count. made_dispatches count ∙ omega (arith, ap {B = ℕ} (λ b. if b then 1 else 0) none);
 }
 
-fresh-work : (fresh : Bool) (items : List Item) (to : Place) (heard : Hearing) → IsHeardIn items (whats.Spawn 0 0 to fresh) heard → is_work_heard heard ≡ false
-fresh-work true items to heard is = ap is_work_heard is
-fresh-work false items to heard is = ap is_work_heard is
+fresh-work : (fresh : Bool) (items : List Item) (to : Place) (hearing : Hearing) → IsHearingOfEntry items (whats.Spawn 0 0 to fresh) hearing → is_work_hearing hearing ≡ false
+fresh-work true items to hearing is = ap is_work_hearing is
+fresh-work false items to hearing is = ap is_work_hearing is
 
-kill-work : (found : KillFound) (heard : Hearing) → heard ≡ kill_hearing found → is_work_heard heard ≡ false
-kill-work kill_found.Killed heard is = ap is_work_heard is
-kill-work kill_found.Unused heard is = ap is_work_heard is
-kill-work kill_found.Already heard is = ap is_work_heard is
+kill-work : (found : KillResult) (hearing : Hearing) → hearing ≡ kill_hearing found → is_work_hearing hearing ≡ false
+kill-work kill_result.Killed hearing is = ap is_work_hearing is
+kill-work kill_result.Unused hearing is = ap is_work_hearing is
+kill-work kill_result.Already hearing is = ap is_work_hearing is
 
-heard-counts : (place : Place → Place) (block : BlockId → BlockId) (items : List Item) (what : What) (heard : Hearing) → IsHeardIn items what heard → IsCounted (renamed_what place block what) heard
-heard-counts place block items (whats.Take asking dead poller given) heard is = take-counts asking dead poller given heard (given-work items given heard is)
-heard-counts place block items (whats.Send pid first to bytes) heard is = no_work _ heard (λ user actor. refl) (λ count. refl) (λ count. refl) (ap is_work_heard is)
-heard-counts place block items (whats.Spawn pid image to fresh) heard is = no_work _ heard (λ user actor. refl) (λ count. refl) (λ count. refl) (fresh-work fresh items to heard is)
-heard-counts place block items (whats.Kill pid to found) heard is = no_work _ heard (λ user actor. refl) (λ count. refl) (λ count. refl) (kill-work found heard is)
-heard-counts place block items (whats.Note pid word) heard is = no_work _ heard (λ user actor. refl) (λ count. refl) (λ count. refl) (ap is_work_heard is)
-heard-counts place block items other heard is = absurd is
+heard-counts : (place : Place → Place) (block : BlockId → BlockId) (items : List Item) (what : What) (hearing : Hearing) → IsHearingOfEntry items what hearing → IsCounted (renamed_what place block what) hearing
+heard-counts place block items (whats.Take asking dead poller given) hearing is = take-counts asking dead poller given hearing (given-work items given hearing is)
+heard-counts place block items (whats.Send pid first to bytes) hearing is = no_work _ hearing (λ user actor. refl) (λ count. refl) (λ count. refl) (ap is_work_hearing is)
+heard-counts place block items (whats.Spawn pid image to fresh) hearing is = no_work _ hearing (λ user actor. refl) (λ count. refl) (λ count. refl) (fresh-work fresh items to hearing is)
+heard-counts place block items (whats.Kill pid to found) hearing is = no_work _ hearing (λ user actor. refl) (λ count. refl) (λ count. refl) (kill-work found hearing is)
+heard-counts place block items (whats.Note pid word) hearing is = no_work _ hearing (λ user actor. refl) (λ count. refl) (λ count. refl) (ap is_work_hearing is)
+heard-counts place block items other hearing is = absurd is
 
 -- an entry is a Take whatever its names are, and is one where its call asks for work
 takes-renamed : (place : Place → Place) (block : BlockId → BlockId) (user actor : ℕ) (what : What)
@@ -110,8 +110,8 @@ call-takes nodes standing r user actor mail_call = refl
 
 module _ (parts : MachineParts) (history : List Entry) (cube : HeldCube) (now : IsSeen parts history cube) (r : ℕ) (below : r < 2 ^ cube.grant.dim) (box : Node)
     (stands : IsStandIn cube.grant (trace_node parts history cube.number cube.grant r) box) (entry : Entry)
-    (made : IsMadeBy parts history cube.grant (node_of cube.grant.sub r) (says box).call entry) (heard : Hearing)
-    (is : IsHeardByNode history cube.grant r entry.what heard) where
+    (made : IsCubeCallEntry parts history cube.grant (node_of cube.grant.sub r) (says box).call entry) (hearing : Hearing)
+    (is : IsHearingOfNode history cube.grant r entry.what hearing) where
   abbrev own : Cube
   own = cube_of parts.images cube.grant
 
@@ -122,13 +122,13 @@ module _ (parts : MachineParts) (history : List Entry) (cube : HeldCube) (now : 
   call = (says (trace_node parts history cube.number cube.grant r)).call
 
   abbrev work : ℕ
-  work = if is_work_heard heard then 1 else 0
+  work = if is_work_hearing hearing then 1 else 0
 
-  counts : IsCounted inner.what heard
+  counts : IsCounted inner.what hearing
   counts =
       heard-counts (place_inward cube.grant.sub) (block_inward cube.grant.sub)
-      (map (renamed_item (block_outward cube.grant)) (waiting_items (opening own).standing r (view history cube.number))) entry.what heard
-      (heard-own parts history cube now r below box stands entry heard is)
+      (map (renamed_item (block_outward cube.grant)) (waiting_items (opening own).standing r (view history cube.number))) entry.what hearing
+      (heard-own parts history cube now r below box stands entry hearing is)
 
   left-by : (t : List Entry) → t ≡ view history cube.number ++ inner ∷ [] → made_dispatches (opening own).standing t ≤ allowed_dispatches (opening own).standing t
       → allowed_dispatches (opening own).standing t - made_dispatches (opening own).standing t + work ≡ dispatches_left parts history cube.number cube.grant
@@ -142,7 +142,7 @@ module _ (parts : MachineParts) (history : List Entry) (cube : HeldCube) (now : 
         ap (made_dispatches o) same ∙ dispatched-more o before inner ∙ counts.made_dispatches (made_dispatches o before),
       )
 
-  entry-of : IsEntryOf parts history cube.number cube.grant r (says box).call entry heard
+  entry-of : IsEntryOfNode parts history cube.number cube.grant r (says box).call entry hearing
   entry-of =
       let said = says-of parts history cube now r below box stands in
       let more = one-more parts history cube now (node_of cube.grant.sub r) (says box).call entry said.fits made in
@@ -160,12 +160,12 @@ module _ (parts : MachineParts) (history : List Entry) (cube : HeldCube) (now : 
       }
 
 pub entries-count : EntriesCount
-entries-count parts history number grant machine lawful held r box entry heard below stands made is =
+entries-count parts history number grant machine lawful held r box entry hearing below stands made is =
     by_seen
     (λ number grant. r < 2 ^ grant.dim → IsStandIn grant (trace_node parts history number grant r) box
-    → IsMadeBy parts history grant (node_of grant.sub r) (says box).call entry → IsHeardByNode history grant r entry.what heard
-    → IsEntryOf parts history number grant r (says box).call entry heard) parts history number grant machine lawful
-    (λ cube now below stands made is. entry-of parts history cube now r below box stands entry made heard is) held below stands made is
+    → IsCubeCallEntry parts history grant (node_of grant.sub r) (says box).call entry → IsHearingOfNode history grant r entry.what hearing
+    → IsEntryOfNode parts history number grant r (says box).call entry hearing) parts history number grant machine lawful
+    (λ cube now below stands made is. entry-of parts history cube now r below box stands entry made hearing is) held below stands made is
 
 pub boxes_in_step-end-turns : BoxesInStepEndTurns
 boxes_in_step-end-turns parts history number grant box steps = λ r below. (steps r below).asks

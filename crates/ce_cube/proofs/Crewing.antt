@@ -14,15 +14,15 @@ use Rattle.ce_model.specs.Machine.{IsMachine}
 use Rattle.ce_solo.proofs.Lists.{all-append}
 use Rattle.ce_solo.proofs.Projection.Numbers.{few_relative}
 use Rattle.ce_daemon.specs.declared.grant.Grant.{Grant}
-use Rattle.rk_node.specs.Boxes.{Box, fresh_at}
-use Rattle.rk_node.specs.declared.out.Out.TheVariants.{Nothing}
+use Rattle.rk_node.specs.Boxes.{Box, fresh_node_at}
+use Rattle.rk_node.specs.declared.awaited_call.AwaitedCall.TheVariants.{Nothing}
 use Rattle.ce_machine.specs.Meanings.{MachineFacts}
 use Rattle.ce_script.specs.Rounds.{has_work, IsTurn, RoundKind, serial}
 use Rattle.ce_cube.specs.Boxes.{IsHeldAs, IsInStep}
 use Rattle.ce_cube.specs.Rounds.{IsPartOfRound}
-use Rattle.ce_cube.specs.Crews.{HasStopped, IsLawfulMachine, IsReady, AreBoxesInStep, IsHostInStep, IsCrewInStep, HasGoneOn, AreCallsOf, box_at, CrewFacts, HasMadeSerialRound}
+use Rattle.ce_cube.specs.Crews.{HasStopped, IsLawfulMachine, IsReadyBox, AreBoxesInStep, IsHostInStep, IsCrewInStep, HasCrewGoneOn, AreCallsOf, box_at, CrewFacts, HasMadeSerialRound}
 use Rattle.ce_daemon.specs.Peeks.{cube_grant}
-use Rattle.ce_cube.specs.Exchanges.{HasNode, IsTurning, HasTakenTurn, IsRoundUnderWay, machine_node, cube_dispatches_left}
+use Rattle.ce_cube.specs.Exchanges.{HasNode, IsTurnUnderWay, HasTakenTurn, IsRoundUnderWay, machine_node, cube_dispatches_left}
 use Rattle.ce_cube.specs.Beside.{IsMix}
 use Rattle.ce_cube.proofs.Held.{placed-of}
 use Rattle.ce_cube.proofs.Fronts.{mix-serial, mix-calls, mix-both}
@@ -89,8 +89,8 @@ module _ (m : MachineFacts) (crew : CrewFacts) (sound : IsLawfulMachine m) (step
   pub crew-node : HasNode m crew.grant r
   crew-node = record { sound = sound; held = step.held; within = below }
 
-  pub crew-ready : (box : Box) → box ≡ box_at crew.boxes r → IsReady box
-  crew-ready box is = subst IsReady (sym is) (step.boxes.ready r below)
+  pub crew-ready : (box : Box) → box ≡ box_at crew.boxes r → IsReadyBox box
+  crew-ready box is = subst IsReadyBox (sym is) (step.boxes.ready r below)
 
   pub crew-steps : (box : Box) → box ≡ box_at crew.boxes r → IsInStep (cube_grant crew.grant) (machine_node m crew.grant r) box.node
   crew-steps box is =
@@ -110,20 +110,20 @@ in-step-by m grant crew is held boxes host entries = record {
 -- ---- a turn
 
 module _ (m m' : MachineFacts) (crew crew' : CrewFacts) (r count : ℕ) (box : Box) (work : Bool) (step : IsCrewInStep m.parts m.history crew) (below : r < 2 ^ crew.grant.dim)
-    (turn : IsTurning m m' crew.grant r box work count) (steps : IsInStep (cube_grant crew.grant) (machine_node m' crew.grant r) box.node) where
+    (turn : IsTurnUnderWay m m' crew.grant r box work count) (steps : IsInStep (cube_grant crew.grant) (machine_node m' crew.grant r) box.node) where
   -- each box is ready and in step
   box-at : (q : ℕ) → q < 2 ^ crew.grant.dim
-      → IsReady (box_at (set crew.boxes r box) q) × IsInStep (cube_grant crew.grant) (machine_node m' crew.grant q) (box_at (set crew.boxes r box) q).node
+      → IsReadyBox (box_at (set crew.boxes r box) q) × IsInStep (cube_grant crew.grant) (machine_node m' crew.grant q) (box_at (set crew.boxes r box) q).node
   box-at q within = elim (cases_Bool (q == r)) [
     | inl same ↦
         let at = eqb-true q r same in
-        subst (λ q. IsReady (box_at (set crew.boxes r box) q) × IsInStep (cube_grant crew.grant) (machine_node m' crew.grant q) (box_at (set crew.boxes r box) q).node) (sym at)
-        (subst (λ (b : Box). IsReady b × IsInStep (cube_grant crew.grant) (machine_node m' crew.grant r) b.node)
-        (sym (get_or-set_same crew.boxes r box (record { node = fresh_at 0 0 0 0; room = 0; out = Nothing }) (omega (arith, step.boxes.all, below))))
+        subst (λ q. IsReadyBox (box_at (set crew.boxes r box) q) × IsInStep (cube_grant crew.grant) (machine_node m' crew.grant q) (box_at (set crew.boxes r box) q).node) (sym at)
+        (subst (λ (b : Box). IsReadyBox b × IsInStep (cube_grant crew.grant) (machine_node m' crew.grant r) b.node)
+        (sym (get_or-set_same crew.boxes r box (record { node = fresh_node_at 0 0 0 0; room = 0; awaited_call = Nothing }) (omega (arith, step.boxes.all, below))))
         (turn.stands.ready, steps))
     | inr differ ↦
-        subst (λ (b : Box). IsReady b × IsInStep (cube_grant crew.grant) (machine_node m' crew.grant q) b.node)
-        (sym (get_or-set_other crew.boxes r q box (record { node = fresh_at 0 0 0 0; room = 0; out = Nothing }) (λ e. both_ways (q == r) differ (eq-eqb q r e)))) (
+        subst (λ (b : Box). IsReadyBox b × IsInStep (cube_grant crew.grant) (machine_node m' crew.grant q) b.node)
+        (sym (get_or-set_other crew.boxes r q box (record { node = fresh_node_at 0 0 0 0; room = 0; awaited_call = Nothing }) (λ e. both_ways (q == r) differ (eq-eqb q r e)))) (
           step.boxes.ready q within,
           subst (λ node. IsInStep (cube_grant crew.grant) node (box_at crew.boxes q).node) (sym (turn.goes_on.others q within differ)) (step.boxes.in_step q within),
         )
@@ -191,18 +191,18 @@ or_count false true = omega arith
 or_count false false = omega arith
 
 -- on one thread the history is longer by just what was made
-pub serial-history : (before after : MachineFacts) (crew crew' : CrewFacts) (made : List Entry) → HasGoneOn serial before after crew crew' made
+pub serial-history : (before after : MachineFacts) (crew crew' : CrewFacts) (made : List Entry) → HasCrewGoneOn serial before after crew crew' made
     → after.history ≡ before.history ++ made
 serial-history before after crew crew' made on =
     on.history ∙ ap (λ more. before.history ++ more) (mix-serial crew.grant.user on.all_entries made on.mix)
 
 -- the machine is lawful still
-pub still-sound : (kind : RoundKind) (m now : MachineFacts) (crew crew' : CrewFacts) (made : List Entry) → IsLawfulMachine m → HasGoneOn kind m now crew crew' made
+pub still-sound : (kind : RoundKind) (m now : MachineFacts) (crew crew' : CrewFacts) (made : List Entry) → IsLawfulMachine m → HasCrewGoneOn kind m now crew crew' made
     → IsLawfulMachine now
 still-sound kind m now crew crew' made sound on = record { within = subst IsMachine (sym on.parts) sound.within; lawful = on.lawful }
 
 -- a crew that has done nothing yet
-pub stands-still : (kind : RoundKind) (m : MachineFacts) (crew : CrewFacts) → IsLawfulMachine m → IsCrewInStep m.parts m.history crew → HasGoneOn kind m m crew crew []
+pub stands-still : (kind : RoundKind) (m : MachineFacts) (crew : CrewFacts) → IsLawfulMachine m → IsCrewInStep m.parts m.history crew → HasCrewGoneOn kind m m crew crew []
 stands-still kind m crew sound step = record {
   all_entries = [];
   parts = refl;
@@ -226,8 +226,8 @@ round-starts m crew sound step = record {
 }
 
 -- what a crew did, and what it did behind that, by the grant that it still has
-pub gone-both : (kind : RoundKind) (m now now' : MachineFacts) (crew crew' crew'' : CrewFacts) (made turn : List Entry) → HasGoneOn kind m now crew crew' made
-    → HasGoneOn kind now now' crew' crew'' turn → HasGoneOn kind m now' crew crew'' (made ++ turn)
+pub gone-both : (kind : RoundKind) (m now now' : MachineFacts) (crew crew' crew'' : CrewFacts) (made turn : List Entry) → HasCrewGoneOn kind m now crew crew' made
+    → HasCrewGoneOn kind now now' crew' crew'' turn → HasCrewGoneOn kind m now' crew crew'' (made ++ turn)
 gone-both kind m now now' crew crew' crew'' made turn on next =
     let inner = entry_inward crew.grant.sub in
     record {

@@ -1,4 +1,5 @@
--- Fronts of lists, what holds of each member of a list, and the entries of one actor among those of others.
+-- Fronts of lists, what holds of each member of a list, and the entries of one actor among those of
+-- others.
 use Rattle.std.proofs.Common.{◌≡◌, ◌⊎◌, ℕ, ◌^◌, ◌<◌, Bool, true, false, ◌&&◌, ◌==◌, if◌then◌else◌, IsTrue, List, [], ◌∷◌, ◌++◌, length, map, filter, Some, refl, ap, ap₂, sym, ◌∙◌, inl, inr, arith, append-nil, append_assoc, length-append}
 use Rattle.std.specs.Prelude.{is_some}
 use Rattle.std.specs.List.{AllByRecursion}

@@ -11,7 +11,7 @@ use Rattle.ce_model.specs.Limits.{home_blocks}
 use Rattle.ce_model.specs.Blocks.{Block, is_lower, with_id, with_ids, blocks_of_home}
 use Rattle.ce_solo.proofs.Counting.{hit, hit-self, count, count-cons, count-append, count-put_all}
 use Rattle.xm_block.specs.Stores.{BlockStore, ids_of}
-use Rattle.rk_node.specs.Hearings.{AreApartFrom}
+use Rattle.rk_node.specs.Hearings.{AreNewToStore}
 use Rattle.ce_cube.specs.Homecoming.{HasPrefix}
 
 -- ---- a list whose first elements were changed
@@ -67,7 +67,7 @@ module _ {X : Type 0} (has : X → List BlockId) (xs : List X) (i : ℕ) (d : X)
       )
 
   -- the blocks of the next one are apart from those that a store had and those of the earlier ones
-  pub next-apart : (first store : BlockStore) → ids_of store.blocks ≡ with_ids before (ids_of first.blocks) → AreApartFrom (flat_map has xs) first → AreApartFrom (has x) store
+  pub next-apart : (first store : BlockStore) → ids_of store.blocks ≡ with_ids before (ids_of first.blocks) → AreNewToStore (flat_map has xs) first → AreNewToStore (has x) store
   next-apart first store moved all = record {
     apart = λ id. omega (
       arith,
@@ -117,7 +117,7 @@ contains-count (x ∷ xs) id (suc k, low, same) = omega (arith, count-cons id x 
 
 -- the next of some blocks isn't in the store that has the earlier ones
 pub given-apart : (blocks yielded : List Block) (block : Block) (first store : BlockStore) → (length yielded < length blocks) × (block ≡ get_or blocks (length yielded) block)
-    → yielded ≡ take (length yielded) blocks → ids_of store.blocks ≡ with_ids (ids_of yielded) (ids_of first.blocks) → AreApartFrom (ids_of blocks) first
+    → yielded ≡ take (length yielded) blocks → ids_of store.blocks ≡ with_ids (ids_of yielded) (ids_of first.blocks) → AreNewToStore (ids_of blocks) first
     → Contains (ids_of store.blocks) block.id → ⊥
 given-apart blocks yielded block first store next so_far moved all there =
     let i : ℕ = length yielded in
@@ -125,7 +125,7 @@ given-apart blocks yielded block first store next so_far moved all there =
     let singles : (some : List Block) → flat_map has some ≡ ids_of some = λ some. flat_map_single (λ (one : Block). one.id) some in
     let earlier : ids_of store.blocks ≡ with_ids (flat_map has (take i blocks)) (ids_of first.blocks) =
     moved ∙ ap (λ zs. with_ids zs (ids_of first.blocks)) (ap ids_of so_far ∙ sym (singles (take i blocks))) in
-    let apart = (next-apart has blocks i block next.0 first store earlier (subst (λ zs. AreApartFrom zs first) (sym (singles blocks)) all)).apart block.id in
+    let apart = (next-apart has blocks i block next.0 first store earlier (subst (λ zs. AreNewToStore zs first) (sym (singles blocks)) all)).apart block.id in
     let id : (get_or blocks i block).id ≡ block.id = ap (λ (one : Block). one.id) (sym next.1) in
     absurd (omega (
       arith,

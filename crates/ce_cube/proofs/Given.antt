@@ -13,8 +13,8 @@ use Rattle.ce_model.specs.Answers.{offer_of}
 use Rattle.ce_model.specs.Cube.{Cube, CubeState, IsCube, hearing_of_parcel, hearing_of_result}
 use Rattle.ce_model.specs.Sound.{IsSound}
 use Rattle.ce_solo.proofs.Counting.{hit-self, count, count-nil, count-cons, count-is, sum_run-part}
-use Rattle.ce_solo.proofs.Records.{kept_with, among-all, HasTakenItem, without_named, takes-item, start-taken, kill-taken}
-use Rattle.ce_solo.proofs.Totals.{at_node, at_node-is, total, total-is, total-le}
+use Rattle.ce_solo.proofs.Records.{record_with, among-all, HasTakenItem, without_named, takes-item, start-taken, kill-taken}
+use Rattle.ce_solo.proofs.Totals.{count_at_node, count_at_node-is, total, total-is, total-le}
 use Rattle.ce_solo.proofs.Room.{held_blocks, few-blocks}
 use Rattle.ce_solo.proofs.Words.{HasMadeCall}
 use Rattle.ce_solo.proofs.HandedOver.{member-of, find-passes}
@@ -30,7 +30,7 @@ module _ (cube : Cube) (s : CubeState) (r : ℕ) (of : IsCube cube) (below : r <
   kept = s.standing.node_record r
 
   abbrev left_behind : Item → NodeRecord
-  left_behind item = kept_with (without_named item kept.waiting_items) kept.spawned_ids kept.killed_ids kept.mark
+  left_behind item = record_with (without_named item kept.waiting_items) kept.spawned_ids kept.killed_ids kept.mark
 
   -- what a node is given is the first that it can be given
   abbrev IsFirst : Item → Type 0
@@ -67,9 +67,9 @@ module _ (cube : Cube) (s : CubeState) (r : ℕ) (of : IsCube cube) (below : r <
         count-nil id,
         count-cons id parcel.block.id (blocks_of now),
         count-cons id parcel.block.id [],
-        at_node-is id s r,
+        count_at_node-is id s r,
         total-is id cube.dim s,
-        sum_run-part (at_node id s) r 0 (2 ^ cube.dim) (omega arith) (omega (arith, below)),
+        sum_run-part (count_at_node id s) r 0 (2 ^ cube.dim) (omega arith) (omega (arith, below)),
       )
 
   new_block : (parcel : Parcel) → IsFirst (mail parcel) → count_by (is_same_id parcel.block.id) (blocks_of now) ≡ 0

@@ -11,14 +11,14 @@ use Rattle.ce_lock.proofs.Histories.{own_append}
 use Rattle.ce_machine.specs.Meanings.{MachineFacts, whose, is_alone_entry}
 use Rattle.ce_solo.proofs.Lists.{all-append}
 use Rattle.ce_cube.specs.Boxes.{IsStandIn}
-use Rattle.ce_cube.specs.Beside.{AreNotMadeAlone, IsHeldBeside}
+use Rattle.ce_cube.specs.Beside.{AreNotMadeAlone, AreEntriesBeside}
 use Rattle.ce_daemon.specs.Peeks.{cube_grant}
 use Rattle.ce_cube.specs.Exchanges.{HasNode, IsBoxOfNode, machine_node}
-use Rattle.ce_cube.specs.Dispatches.{node_entries, HasGoneOnAmid}
+use Rattle.ce_cube.specs.Dispatches.{node_entries, HasNodeGoneOnBeside}
 use Rattle.ce_cube.proofs.Beside.{beside-keeps}
 
 module _ (before : MachineFacts) (grant : Grant) (r : ℕ) (was : HasNode before grant r) where
-  pub grown-none : length before.history < 2 ^ 63 → HasGoneOnAmid before before grant r [] []
+  pub grown-none : length before.history < 2 ^ 63 → HasNodeGoneOnBeside before before grant r [] []
   grown-none few = record {
     parts = refl;
     history = sym (append-nil before.history);
@@ -35,10 +35,10 @@ module _ (before : MachineFacts) (grant : Grant) (r : ℕ) (was : HasNode before
     abbrev pub waited : MachineFacts
     waited = record { parts = before.parts; history = before.history ++ more }
 
-    held : IsHeldBeside before.parts before.history grant.number (cube_grant grant) more
+    held : AreEntriesBeside before.parts before.history grant.number (cube_grant grant) more
     held = beside-keeps before.parts before.history grant.number (cube_grant grant) was.sound.within was.sound.lawful was.held more lawful beside
 
-    pub grown-wait : HasGoneOnAmid before waited grant r more []
+    pub grown-wait : HasNodeGoneOnBeside before waited grant r more []
     grown-wait = record {
       parts = refl;
       history = refl;
@@ -55,8 +55,8 @@ module _ (before : MachineFacts) (grant : Grant) (r : ℕ) (was : HasNode before
     pub box-waits : (box : Box) → IsBoxOfNode before grant r box → IsBoxOfNode waited grant r box
     box-waits box is = record { ready = is.ready; stands = subst (λ node. IsStandIn (cube_grant grant) node box.node) (sym node-waits) is.stands }
 
-pub grown-on : (before now after : MachineFacts) (grant : Grant) (r : ℕ) (more more' made made' : List Entry) → HasGoneOnAmid before now grant r more made
-    → HasGoneOnAmid now after grant r more' made' → HasGoneOnAmid before after grant r (more ++ more') (made ++ made')
+pub grown-on : (before now after : MachineFacts) (grant : Grant) (r : ℕ) (more more' made made' : List Entry) → HasNodeGoneOnBeside before now grant r more made
+    → HasNodeGoneOnBeside now after grant r more' made' → HasNodeGoneOnBeside before after grant r (more ++ more') (made ++ made')
 grown-on before now after grant r more more' made made' first next = record {
   parts = next.parts ∙ first.parts;
   history = next.history ∙ ap (λ h. h ++ more') first.history ∙ append_assoc before.history more more';

@@ -14,9 +14,9 @@ use Rattle.ce_model.specs.Views.{view}
 use Rattle.ce_model.specs.Machine.{MachineParts, HeldCube, after, cube_standing, cube_of}
 use Rattle.ce_model.proofs.OneMore.{state-more}
 use Rattle.rk_mail.specs.declared.talk.Hearing.{Hearing}
-use Rattle.rk_mail.specs.Talk.{hearing_model, IsHeardIn}
+use Rattle.rk_mail.specs.Talk.{hearing_model, IsHearingOfEntry}
 use Rattle.ce_solo.proofs.Projection.Numbers.{relative_out}
-use Rattle.ce_cube.specs.Boxes.{trace_node, IsStandIn, IsMadeBy, IsHeardByNode}
+use Rattle.ce_cube.specs.Boxes.{trace_node, IsStandIn, IsCubeCallEntry, IsHearingOfNode}
 use Rattle.ce_cube.specs.Laws.{BoxesHear}
 use Rattle.ce_cube.proofs.Held.{IsSeen, by_seen}
 use Rattle.ce_cube.proofs.Seats.{rest-hears, parcel-blocks}
@@ -42,30 +42,30 @@ module _ (parts : MachineParts) (history : List Entry) (cube : HeldCube) (now : 
   pub items-outward : ((cube_standing (after history) cube).node_record (node_of cube.grant.sub r)).waiting_items ≡ map (renamed_item (block_outward cube.grant)) items
   items-outward = ap (λ (kept : NodeRecord). kept.waiting_items) (now.standing.nodes r below)
 
-  pub heard-own : (entry : Entry) (heard : Hearing) → IsHeardByNode history cube.grant r entry.what heard → IsHeardIn (map (renamed_item (block_outward cube.grant)) items) entry.what heard
-  heard-own entry heard is =
-      subst (λ items. IsHeardIn items entry.what heard) items-outward
-      (subst (λ held. IsSomeAnd held (λ one. IsHeardIn ((cube_standing (after history) one).node_record (node_of cube.grant.sub r)).waiting_items entry.what heard)) now.holds is)
+  pub heard-own : (entry : Entry) (hearing : Hearing) → IsHearingOfNode history cube.grant r entry.what hearing → IsHearingOfEntry (map (renamed_item (block_outward cube.grant)) items) entry.what hearing
+  heard-own entry hearing is =
+      subst (λ items. IsHearingOfEntry items entry.what hearing) items-outward
+      (subst (λ held. IsSomeAnd held (λ one. IsHearingOfEntry ((cube_standing (after history) one).node_record (node_of cube.grant.sub r)).waiting_items entry.what hearing)) now.holds is)
 
-  hears-own : (entry : Entry) (heard : Hearing) → IsMadeBy parts history cube.grant (node_of cube.grant.sub r) (says box).call entry
-      → IsHeardByNode history cube.grant r entry.what heard
-      → node_after_hearing parts.images (says box).node (hearing_model heard) ≡ node_outward cube.grant (trace_node parts (history ++ entry ∷ []) cube.number cube.grant r)
-  hears-own entry heard made is =
+  hears-own : (entry : Entry) (hearing : Hearing) → IsCubeCallEntry parts history cube.grant (node_of cube.grant.sub r) (says box).call entry
+      → IsHearingOfNode history cube.grant r entry.what hearing
+      → node_after_hearing parts.images (says box).node (hearing_model hearing) ≡ node_outward cube.grant (trace_node parts (history ++ entry ∷ []) cube.number cube.grant r)
+  hears-own entry hearing made is =
       let said = says-of parts history cube now r below box stands in
       let inner = entry_inward cube.grant.sub entry in
       let actor : (inner.actor == r) ≡ true = eq-eqb _ _ (ap (relative_number cube.grant.sub) made.actor_is ∙ relative_out parts.dim cube.grant now.placed r below) in
-      ap (λ node. node_after_hearing parts.images node (hearing_model heard)) said.at_rest
+      ap (λ node. node_after_hearing parts.images node (hearing_model hearing)) said.at_rest
       ∙ ap (node_after_hearing parts.images (node_outward cube.grant (says (trace_node parts history cube.number cube.grant r)).node))
-      (reply-heard (block_outward cube.grant) (place_inward cube.grant.sub) (block_inward cube.grant.sub) items entry.what heard (heard-own entry heard is))
+      (reply-heard (block_outward cube.grant) (place_inward cube.grant.sub) (block_inward cube.grant.sub) items entry.what hearing (heard-own entry hearing is))
       ∙ rest-hears parts history cube now r below (hearing_of_entry items inner.what) (heard-of cube.grant.dim items inner.what (parcel-blocks parts history cube now r below))
       ∙ ap (node_outward cube.grant) (sym (ap (state own (opening own) r)
       (trace_next parts history cube now (node_of cube.grant.sub r) (says box).call entry said.fits made)
       ∙ state-own own r (view history cube.number) inner actor))
 
 pub boxes-hear : BoxesHear
-boxes-hear parts history number grant machine lawful held r box entry heard below stands made is =
+boxes-hear parts history number grant machine lawful held r box entry hearing below stands made is =
     by_seen
     (λ number grant. r < 2 ^ grant.dim → IsStandIn grant (trace_node parts history number grant r) box
-    → IsMadeBy parts history grant (node_of grant.sub r) (says box).call entry → IsHeardByNode history grant r entry.what heard
-    → node_after_hearing parts.images (says box).node (hearing_model heard) ≡ node_outward grant (trace_node parts (history ++ entry ∷ []) number grant r)) parts history number grant machine lawful
-    (λ cube now below stands made is. hears-own parts history cube now r below box stands entry heard made is) held below stands made is
+    → IsCubeCallEntry parts history grant (node_of grant.sub r) (says box).call entry → IsHearingOfNode history grant r entry.what hearing
+    → node_after_hearing parts.images (says box).node (hearing_model hearing) ≡ node_outward grant (trace_node parts (history ++ entry ∷ []) number grant r)) parts history number grant machine lawful
+    (λ cube now below stands made is. hears-own parts history cube now r below box stands entry hearing made is) held below stands made is

@@ -16,8 +16,8 @@ use Rattle.ce_solo.proofs.Projection.Law.{projected}
 use Rattle.ce_cube.specs.Boxes.{IsHeldAs}
 use Rattle.ce_cube.proofs.Subcubes.{subcube-listed}
 
--- a cube that is held and goes on, in a history that the machine allows: it is placed on the machine, its trace leaves a sound state,
--- and the machine keeps how it stands
+-- a cube that is held and goes on, in a history that the machine allows: it is placed on the
+-- machine, its trace leaves a sound state, and the machine keeps how it stands
 pub record IsSeen (parts : MachineParts) (history : List Entry) (cube : HeldCube) : Type 0 where
   pub machine : IsMachine parts
   pub lawful : IsLawful parts history

@@ -75,7 +75,8 @@ length-blocks home from (suc n) =
 
 -- ---- the blocks of a cube
 
--- the names of all blocks of a cube in order: those of its nodes, in relative order, and then those of its host
+-- the names of all blocks of a cube in order: those of its nodes, in relative order, and then those
+-- of its host
 abbrev pub names_of_cube : CubeGrant → List BlockId
 names_of_cube grant = flat_map (λ r. blocks_of_home (node_of grant.sub r)) (node_numbers grant.dim) ++ blocks_of_home (host_home + grant.user)
 

@@ -15,14 +15,14 @@ use Rattle.ce_model.specs.Node.{Node, Call, take_call, send_call, spawn_call, ki
 use Rattle.ce_model.specs.Hearing.{mail_of, node_after_hearing}
 use Rattle.ce_model.specs.Answers.{answer}
 use Rattle.ce_model.specs.Trace.{allowed_dispatches, made_dispatches, allowed_dispatches_after, made_dispatches_after}
-use Rattle.ce_model.specs.Cube.{Cube, CubeState, HostCall, send_bytes, opening, state_after_trace, hoststore, store_after, with_parcel, parcel_numbered, host_call, host_call_of, actor_call, take_message, allow}
+use Rattle.ce_model.specs.Cube.{Cube, CubeState, Wish, send_wish, opening, state_after_trace, hoststore, store_after, with_parcel, parcel_numbered, call_of_wish, wish_of_call, actor_call, mail_wish, arm_wish}
 use Rattle.ce_model.specs.Owners.{IsBlockOf}
 use Rattle.ce_model.specs.Subcubes.{relative_number}
 use Rattle.ce_model.specs.Renaming.{CubeGrant, place_inward, block_inward, place_outward, block_outward, renamed_what, renamed_call_blocks, renamed_parcel, entry_inward, node_outward}
 use Rattle.ce_model.specs.Views.{view}
-use Rattle.ce_model.specs.Machine.{MachineParts, HeldCube, IsLawful, IsCallWithinLimits, IsFitting, IsCallOf, HasHeldCube, in_cube, after, cube_held_by, cube_of, MachineState, IsLawfulEntry, drain, freecube}
+use Rattle.ce_model.specs.Machine.{MachineParts, HeldCube, IsLawful, IsCallWithinLimits, IsFitting, IsCallOf, HasHeldCube, cube_request, after, cube_held_by, cube_of, MachineState, IsLawfulEntry, drain, freecube}
 use Rattle.ce_model.proofs.OneMore.{hoststore-more, armed-more, dispatched-more}
-use Rattle.ce_model.proofs.AloneByEntries.{host_call-wish}
+use Rattle.ce_model.proofs.AloneByEntries.{call_of_wish-wish}
 use Rattle.ce_solo.proofs.Counting.{same_id-self, hit, hit-self, hit-le, same_from_hit, count, count-cons, count-is}
 use Rattle.ce_solo.proofs.Items.{parcel_ids}
 use Rattle.ce_solo.proofs.Totals.{total, total-is, total-le}
@@ -30,7 +30,7 @@ use Rattle.ce_solo.proofs.Room.{held_blocks, few-blocks}
 use Rattle.ce_solo.proofs.Renaming.Grants.{renaming}
 use Rattle.ce_solo.proofs.Projection.Numbers.{IsPlaced, relative_host, block_in_out}
 use Rattle.ce_solo.proofs.Projection.Law.{projected, after-more}
-use Rattle.ce_cube.specs.Boxes.{drain_entry, trace_store, IsMadeBy, IsAccepted}
+use Rattle.ce_cube.specs.Boxes.{drain_entry, trace_store, IsCubeCallEntry, IsAccepted}
 use Rattle.ce_cube.specs.Laws.{ArmsAllow, DrainsFit, HostsFit, HostsSend, HostsTake}
 use Rattle.ce_cube.specs.Rounds.{dispatches_left}
 use Rattle.ce_model.proofs.Walked.{each-more}
@@ -108,16 +108,16 @@ module _ (parts : MachineParts) (history : List Entry) (cube : HeldCube) (now : 
   store-blocks : AllByRecursion (IsBlockOf cube.grant.dim) s.hoststore
   store-blocks = held_blocks own s s.hoststore now.stands.sound (λ id. omega (arith, total-is id cube.grant.dim s))
 
-  fits-by : (wish : HostCall) (call : Call) → host_call own s.hoststore wish ≡ Some call → IsCallWithinLimits call
-      → IsFitting parts history cube.grant.user HOST (in_cube (renamed_call_blocks out call))
+  fits-by : (wish : Wish) (call : Call) → call_of_wish own s.hoststore wish ≡ Some call → IsCallWithinLimits call
+      → IsFitting parts history cube.grant.user HOST (cube_request (renamed_call_blocks out call))
   fits-by wish call e within =
       let was = (projected parts history now.machine now.lawful).held cube.grant.user cube now.holds in
       let host = relative_host parts.dim cube.grant now.placed in
       let of : IsCallOf parts history HOST (renamed_call_blocks out call) cube = record {
         inner = call;
         inside = inl refl;
-        next = ap (λ actor. actor_call own (opening own) (view history cube.number) actor (host_call_of call)) host
-            ∙ ap (option_and_then (host_call own s.hoststore)) (host_call-wish own s.hoststore wish call e) ∙ e;
+        next = ap (λ actor. actor_call own (opening own) (view history cube.number) actor (wish_of_call call)) host
+            ∙ ap (option_and_then (call_of_wish own s.hoststore)) (call_of_wish-wish own s.hoststore wish call e) ∙ e;
         renamed = refl;
         within = λ host. limits-renamed out call within;
         not_drained = now.goes;
@@ -127,8 +127,8 @@ module _ (parts : MachineParts) (history : List Entry) (cube : HeldCube) (now : 
       )
 
   -- the host's store behind an entry of its own
-  module _ (wish : HostCall) (call : Call) (is : host_call own s.hoststore wish ≡ Some call) (within : IsCallWithinLimits call) (entry : Entry)
-      (made : IsMadeBy parts history cube.grant HOST (renamed_call_blocks out call) entry) where
+  module _ (wish : Wish) (call : Call) (is : call_of_wish own s.hoststore wish ≡ Some call) (within : IsCallWithinLimits call) (entry : Entry)
+      (made : IsCubeCallEntry parts history cube.grant HOST (renamed_call_blocks out call) entry) where
     abbrev inner : Entry
     inner = entry_inward cube.grant.sub entry
 
@@ -142,14 +142,14 @@ module _ (parts : MachineParts) (history : List Entry) (cube : HeldCube) (now : 
 
   -- ---- it allows dispatches
 
-  arm-allows : (count : ℕ) (entry : Entry) → count ≤ greatest_count → IsMadeBy parts history cube.grant HOST (arm_call count) entry
+  arm-allows : (count : ℕ) (entry : Entry) → count ≤ greatest_count → IsCubeCallEntry parts history cube.grant HOST (arm_call count) entry
       → dispatches_left parts (history ++ entry ∷ []) cube.number cube.grant ≡ count
   unfolding answer
   arm-allows count entry within made =
       let o = (opening own).standing in
       let t = view history cube.number in
       let inner = entry_inward cube.grant.sub entry in
-      let more = one-more parts history cube now HOST (arm_call count) entry (fits-by (allow count) (arm_call count) refl within) made in
+      let more = one-more parts history cube now HOST (arm_call count) entry (fits-by (arm_wish count) (arm_call count) refl within) made in
       let what : inner.what ≡ Arm count =
       ap (renamed_what (place_inward cube.grant.sub) (block_inward cube.grant.sub)) (sym (answer-made parts history cube HOST (arm_call count) entry now.holds made)) in
       omega (
@@ -183,17 +183,17 @@ module _ (parts : MachineParts) (history : List Entry) (cube : HeldCube) (now : 
   -- ---- it sends
 
   module _ (to : Place) (id : BlockId) (bytes : List ℕ) (least : slice_get s.hoststore 0 ≡ Some id) (place : is_place cube.grant.dim to ≡ true)
-      (short : length bytes ≤ block_room) (entry : Entry) (made : IsMadeBy parts history cube.grant HOST (send_call 0 ((to, out id) ∷ []) bytes) entry) where
+      (short : length bytes ≤ block_room) (entry : Entry) (made : IsCubeCallEntry parts history cube.grant HOST (send_call 0 ((to, out id) ∷ []) bytes) entry) where
     sent-is : entry.what ≡ Send 0 cube.parcel_count ((place_outward cube.grant.sub to, out id) ∷ []) bytes
     unfolding answer
     sent-is = sym (answer-made parts history cube HOST (send_call 0 ((to, out id) ∷ []) bytes) entry now.holds made)
 
-    asked-is : host_call own s.hoststore (send_bytes to bytes) ≡ Some (send_call 0 ((to, id) ∷ []) bytes)
+    asked-is : call_of_wish own s.hoststore (send_wish to bytes) ≡ Some (send_call 0 ((to, id) ∷ []) bytes)
     asked-is = rw (place, least) refl
 
     send-next : trace_store parts (history ++ entry ∷ []) cube.number cube.grant ≡ drop 1 s.hoststore
     send-next =
-        store-next (send_bytes to bytes) (send_call 0 ((to, id) ∷ []) bytes) asked-is short entry made
+        store-next (send_wish to bytes) (send_call 0 ((to, id) ∷ []) bytes) asked-is short entry made
         ∙ ap (λ what. store_after (s.standing.node_record HOST).waiting_items s.hoststore (renamed_what (place_inward cube.grant.sub) (block_inward cube.grant.sub) what)) sent-is
         ∙ ap (λ id. without_id id s.hoststore)
         (block_in_out parts.dim cube.grant now.placed id (first_in (IsBlockOf cube.grant.dim) id s.hoststore store-blocks least))
@@ -201,7 +201,7 @@ module _ (parts : MachineParts) (history : List Entry) (cube : HeldCube) (now : 
 
   -- ---- it takes
 
-  module _ (number : ℕ) (entry : Entry) (made : IsMadeBy parts history cube.grant HOST mail_call entry) (what : entry.what ≡ HostTake (Some number)) where
+  module _ (number : ℕ) (entry : Entry) (made : IsCubeCallEntry parts history cube.grant HOST mail_call entry) (what : entry.what ≡ HostTake (Some number)) where
     abbrev items : List Item
     items = (s.standing.node_record HOST).waiting_items
 
@@ -236,7 +236,7 @@ module _ (parts : MachineParts) (history : List Entry) (cube : HeldCube) (now : 
             let more : 2 ^ cube.grant.dim ≤ 2 ^ greatest_dim = pow_mono now.of.dim in
             omega (arith, few, more, ap (λ n. (2 ^ cube.grant.dim + 1) * n) home_blocks_lem, greatest_nodes_lem, greatest_blocks_lem);
         stored =
-            ap (map out) (store-next take_message mail_call refl tt entry made
+            ap (map out) (store-next mail_wish mail_call refl tt entry made
             ∙ ap (λ what. store_after items s.hoststore (renamed_what (place_inward cube.grant.sub) (block_inward cube.grant.sub) what)) what
             ∙ ap (with_parcel s.hoststore) found)
             ∙ put-outward parts.dim cube.grant now.placed s.hoststore parcel own-blocks.1 own-blocks.0;
@@ -257,29 +257,29 @@ module _ (parts : MachineParts) (history : List Entry) (cube : HeldCube) (now : 
 pub hosts-fit : HostsFit
 hosts-fit parts history number grant machine lawful held wish call is within =
     by_seen
-    (λ number grant. host_call (cube_of parts.images grant) (trace_store parts history number grant) wish ≡ Some call
-    → IsFitting parts history grant.user HOST (in_cube (renamed_call_blocks (block_outward grant) call))) parts history number grant machine lawful
+    (λ number grant. call_of_wish (cube_of parts.images grant) (trace_store parts history number grant) wish ≡ Some call
+    → IsFitting parts history grant.user HOST (cube_request (renamed_call_blocks (block_outward grant) call))) parts history number grant machine lawful
     (λ cube now is. fits-by parts history cube now wish call is within) held is
 
 pub hosts-send : HostsSend
 hosts-send parts history number grant machine lawful held to id bytes entry least place short made =
     by_seen
     (λ number grant. slice_get (trace_store parts history number grant) 0 ≡ Some id → is_place grant.dim to ≡ true
-    → IsMadeBy parts history grant HOST (send_call 0 ((to, block_outward grant id) ∷ []) bytes) entry
+    → IsCubeCallEntry parts history grant HOST (send_call 0 ((to, block_outward grant id) ∷ []) bytes) entry
     → trace_store parts (history ++ entry ∷ []) number grant ≡ drop 1 (trace_store parts history number grant)) parts history number grant machine lawful
     (λ cube now least place made. send-next parts history cube now to id bytes least place short entry made) held least place made
 
 pub hosts-take : HostsTake
 hosts-take parts history number grant machine lawful held number' parcel entry made what is =
     by_seen
-    (λ number grant. IsMadeBy parts history grant HOST mail_call entry → HasHeldCube history grant.user (λ cube. parcel_numbered number' cube.mail ≡ Some parcel)
+    (λ number grant. IsCubeCallEntry parts history grant HOST mail_call entry → HasHeldCube history grant.user (λ cube. parcel_numbered number' cube.mail ≡ Some parcel)
     → IsAccepted parts history number grant entry parcel) parts history number grant machine lawful
     (λ cube now made is. taken-next parts history cube now number' entry made what parcel is) held made is
 
 pub arms-allow : ArmsAllow
 arms-allow parts history number grant machine lawful held count entry within made =
     by_seen
-    (λ number grant. IsMadeBy parts history grant HOST (arm_call count) entry → dispatches_left parts (history ++ entry ∷ []) number grant ≡ count) parts history number grant machine lawful
+    (λ number grant. IsCubeCallEntry parts history grant HOST (arm_call count) entry → dispatches_left parts (history ++ entry ∷ []) number grant ≡ count) parts history number grant machine lawful
     (λ cube now made. arm-allows parts history cube now count entry within made) held made
 
 pub drains-fit-held : DrainsFit

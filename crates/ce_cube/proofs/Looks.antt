@@ -18,7 +18,7 @@ use Rattle.ce_solo.proofs.Fresh.{fresh_sound}
 use Rattle.ce_solo.proofs.Projection.Numbers.{what_outward}
 use Rattle.ce_solo.proofs.Projection.Answers.{answer-outward}
 use Rattle.ce_solo.proofs.Projection.Law.{projected, found_alone}
-use Rattle.ce_cube.specs.Boxes.{IsMadeBy, IsHeldAs}
+use Rattle.ce_cube.specs.Boxes.{IsCubeCallEntry, IsHeldAs}
 use Rattle.ce_cube.specs.Laws.{LooksEnd}
 use Rattle.ce_cube.proofs.Held.{IsSeen, by_seen}
 use Rattle.ce_cube.proofs.Adds.{answer-made}
@@ -34,8 +34,8 @@ unfolding answer
 look-is nodes standing = refl
 
 -- the cube is quiet, or its dispatches are used up
-abbrev pub IsAtRest : MachineParts → List Entry → ℕ → CubeGrant → Type 0
-IsAtRest parts history number grant =
+abbrev pub IsCubeAtRest : MachineParts → List Entry → ℕ → CubeGrant → Type 0
+IsCubeAtRest parts history number grant =
     (is_quiet (node_numbers grant.dim) (standing (opening (cube_of parts.images grant)).standing (view history number))
     || is_used_up (standing (opening (cube_of parts.images grant)).standing (view history number))) ≡ true
 
@@ -59,10 +59,10 @@ module _ (parts : MachineParts) (history : List Entry) (cube : HeldCube) (now : 
 
   -- behind a round without work it rests
   pub at-rest : (kind : RoundKind) (before round : List Entry) → view history cube.number ≡ before ++ round → IsRoundWithoutWork kind cube.grant.dim round
-      → IsAtRest parts history cube.number cube.grant
+      → IsCubeAtRest parts history cube.number cube.grant
   at-rest kind before round same quiet = rounds-rest own (opening own) (view history cube.number) now.of (fresh_sound own now.of) alone kind before round same quiet
 
-  look_entry : (entry : Entry) → IsMadeBy parts history cube.grant HOST look_call entry
+  look_entry : (entry : Entry) → IsCubeCallEntry parts history cube.grant HOST look_call entry
       → entry.what ≡ Look (look_result_where (is_quiet (node_numbers cube.grant.dim) s.standing) (is_used_up s.standing))
   look_entry entry made =
       sym (answer-made parts history cube HOST look_call entry now.holds made)
@@ -70,21 +70,21 @@ module _ (parts : MachineParts) (history : List Entry) (cube : HeldCube) (now : 
       ∙ ap (what_outward cube.grant) (look-is (node_numbers cube.grant.dim) s.standing)
 
   -- a look finds that it rests
-  pub found-at-rest : (entry : Entry) → IsMadeBy parts history cube.grant HOST look_call entry → IsAtRest parts history cube.number cube.grant → entry.what ≡ Look Busy → ⊥
+  pub found-at-rest : (entry : Entry) → IsCubeCallEntry parts history cube.grant HOST look_call entry → IsCubeAtRest parts history cube.number cube.grant → entry.what ≡ Look Busy → ⊥
   found-at-rest entry made rests busy = not_busy _ _ rests (ap found_in (sym (look_entry entry made) ∙ busy))
 
 module _ (parts : MachineParts) (history : List Entry) (number : ℕ) (grant : CubeGrant) (machine : IsMachine parts) (lawful : IsLawful parts history)
     (held : IsHeldAs history number grant) where
   -- the same of the cube of a number and grant
   pub rests-behind : (kind : RoundKind) (before round : List Entry) → view history number ≡ before ++ round → IsRoundWithoutWork kind grant.dim round
-      → IsAtRest parts history number grant
+      → IsCubeAtRest parts history number grant
   rests-behind kind before round same quiet =
-      by_seen (λ number grant. view history number ≡ before ++ round → IsRoundWithoutWork kind grant.dim round → IsAtRest parts history number grant)
+      by_seen (λ number grant. view history number ≡ before ++ round → IsRoundWithoutWork kind grant.dim round → IsCubeAtRest parts history number grant)
       parts history number grant machine lawful (λ cube now same quiet. at-rest parts history cube now kind before round same quiet) held same quiet
 
-  pub found-resting : (entry : Entry) → IsMadeBy parts history grant HOST look_call entry → IsAtRest parts history number grant → entry.what ≡ Look Busy → ⊥
+  pub found-resting : (entry : Entry) → IsCubeCallEntry parts history grant HOST look_call entry → IsCubeAtRest parts history number grant → entry.what ≡ Look Busy → ⊥
   found-resting entry made rests busy =
-      by_seen (λ number grant. IsMadeBy parts history grant HOST look_call entry → IsAtRest parts history number grant → ⊥)
+      by_seen (λ number grant. IsCubeCallEntry parts history grant HOST look_call entry → IsCubeAtRest parts history number grant → ⊥)
       parts history number grant machine lawful (λ cube now made rests. found-at-rest parts history cube now entry made rests busy) held made rests
 
 pub looks-end : LooksEnd

@@ -17,7 +17,7 @@ use Rattle.ce_model.specs.Owners.{IsBlockOf}
 use Rattle.ce_model.specs.Subcubes.{node_of}
 use Rattle.ce_model.specs.Sound.{is_unborn, is_polling}
 use Rattle.ce_model.specs.Renaming.{CubeGrant, block_inward, block_outward, renamed_process, renamed_hearing, node_outward}
-use Rattle.ce_solo.specs.Laws.{IsNodeOf, IsHeardOf}
+use Rattle.ce_solo.specs.Laws.{IsNodeOf, IsHearingOfCube}
 use Rattle.ce_solo.proofs.Counting.{same_id, same_id-self}
 use Rattle.ce_solo.proofs.Lists.{count_by-cons}
 use Rattle.ce_solo.proofs.Renaming.Memory.{ids-renamed}
@@ -83,8 +83,8 @@ module _ (dim : ℕ) (grant : CubeGrant) (placed : IsPlaced dim grant) where
         ap (λ call. elim call [ take_call asking dead poller ↦ is_eligible asking dead (mail parcel) | other ↦ false ])
         (take-renamed (block_outward grant) (node_of grant.sub) node)
 
-    pub hearable-outward : (images : List ImageParts) (heard : Hearing) → IsHeardOf grant.dim heard → IsHearable images node heard
-        → IsHearable images (node_outward grant node) (renamed_hearing (block_outward grant) heard)
+    pub hearable-outward : (images : List ImageParts) (hearing : Hearing) → IsHearingOfCube grant.dim hearing → IsHearable images node hearing
+        → IsHearable images (node_outward grant node) (renamed_hearing (block_outward grant) hearing)
     hearable-outward images (start_of pid image) of is = record {
       pid_within = is.pid_within;
       image_within = is.image_within;

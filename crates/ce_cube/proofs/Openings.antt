@@ -14,11 +14,11 @@ use Rattle.ce_model.specs.Subcubes.{node_of}
 use Rattle.ce_model.specs.Renaming.{CubeGrant, block_outward, renamed_process, node_outward}
 use Rattle.ce_model.specs.Machine.{MachineParts, cube_of}
 use Rattle.ce_model.specs.Views.{view}
-use Rattle.ce_daemon.specs.Boxes.{AreBoxesOf}
+use Rattle.ce_daemon.specs.Boxes.{AreGrantBoxes}
 use Rattle.ce_daemon.specs.declared.grant.Grant.{Grant}
-use Rattle.rk_node.specs.Boxes.{Box, IsClean, fresh_at}
+use Rattle.rk_node.specs.Boxes.{Box, IsCleanBox, fresh_node_at}
 use Rattle.ce_cube.specs.Boxes.{IsInStep, trace_node}
-use Rattle.ce_cube.specs.Crews.{box_at, IsReady, AreBoxesInStep}
+use Rattle.ce_cube.specs.Crews.{box_at, IsReadyBox, AreBoxesInStep}
 use Rattle.ce_daemon.specs.Peeks.{cube_grant}
 use Rattle.ce_cube.specs.Homecoming.{entered_box}
 
@@ -54,7 +54,7 @@ module _ (grant : CubeGrant) where
     unfolding name
     home-outward r below = names-outward r (node_of grant.sub r) 0 home_blocks (λ index. rw (no_host r below) refl)
 
-    fresh-outward : (r images : ℕ) → r < 2 ^ grant.dim → node_outward grant (opening_node r grant.dim images) ≡ fresh_at (node_of grant.sub r) r grant.dim images
+    fresh-outward : (r images : ℕ) → r < 2 ^ grant.dim → node_outward grant (opening_node r grant.dim images) ≡ fresh_node_at (node_of grant.sub r) r grant.dim images
     fresh-outward r images below =
         ap₂ (λ (processes : List Process) (store : List BlockId). record (opening_node r grant.dim images) { home = node_of grant.sub r; processes = processes; store = store })
         (unborn-outward process_count) (home-outward r below)
@@ -65,16 +65,16 @@ module _ (grant : CubeGrant) where
       node-fresh r = ap (λ t. state (cube_of parts.images grant) (opening (cube_of parts.images grant)) r t) begins
 
       fresh-in_step : (r : ℕ) → r < 2 ^ grant.dim
-          → IsInStep grant (opening_node r grant.dim (length parts.images)) (fresh_at (node_of grant.sub r) r grant.dim (length parts.images))
+          → IsInStep grant (opening_node r grant.dim (length parts.images)) (fresh_node_at (node_of grant.sub r) r grant.dim (length parts.images))
       unfolding says
       fresh-in_step r below = record { at_rest = sym (fresh-outward r (length parts.images) below); asks = refl }
 
       pub entered-in_step : (r home images : ℕ) → r < 2 ^ grant.dim → home ≡ node_of grant.sub r → length parts.images ≡ images
-          → IsInStep grant (trace_node parts history number grant r) (fresh_at home r grant.dim images)
+          → IsInStep grant (trace_node parts history number grant r) (fresh_node_at home r grant.dim images)
       entered-in_step r home images below at same =
-          let there = subst (λ node. IsInStep grant node (fresh_at (node_of grant.sub r) r grant.dim (length parts.images))) (sym (node-fresh r)) (fresh-in_step r below) in
+          let there = subst (λ node. IsInStep grant node (fresh_node_at (node_of grant.sub r) r grant.dim (length parts.images))) (sym (node-fresh r)) (fresh-in_step r below) in
           subst (λ box. IsInStep grant (trace_node parts history number grant r) box)
-          (ap₂ (λ (h n : ℕ). fresh_at h r grant.dim n) (sym at) same) there
+          (ap₂ (λ (h n : ℕ). fresh_node_at h r grant.dim n) (sym at) same) there
 
       pub host-begins : map outward (hoststore (opening (cube_of parts.images grant)) (view history number)) ≡ blocks_of_home (host_home + grant.user)
       unfolding hoststore
@@ -83,16 +83,16 @@ module _ (grant : CubeGrant) where
 -- ---- the boxes of a grant
 
 module _ (grant : Grant) (parts : MachineParts) (history : List Entry) (images : ℕ) (boxes now : List Box) (dim : grant.dim ≤ greatest_dim)
-    (begins : view history grant.number ≡ []) (same : length parts.images ≡ images) (clean : AreBoxesOf (λ (box : Box). box.node.home) IsClean grant boxes)
+    (begins : view history grant.number ≡ []) (same : length parts.images ≡ images) (clean : AreGrantBoxes (λ (box : Box). box.node.home) IsCleanBox grant boxes)
     (long : length now ≡ length boxes)
     (each : (r : ℕ) (other : Box) → r < length boxes → slice_index_or now r other ≡ entered_box grant.dim images r (slice_index_or boxes r other)) where
   entered-at : (r : ℕ) → r < 2 ^ grant.dim → box_at now r ≡ entered_box grant.dim images r (box_at boxes r)
   entered-at r below = each r (box_at [] r) (omega (arith, below, clean.all))
 
-  ready : (r : ℕ) → r < 2 ^ grant.dim → IsReady (box_at now r)
+  ready : (r : ℕ) → r < 2 ^ grant.dim → IsReadyBox (box_at now r)
   ready r below =
-      let was : IsClean (box_at boxes r) = (clean.each r (box_at [] r) below).1 in
-      subst IsReady (sym (entered-at r below)) (record { idle = was.out; room = was.room })
+      let was : IsCleanBox (box_at boxes r) = (clean.each r (box_at [] r) below).1 in
+      subst IsReadyBox (sym (entered-at r below)) (record { idle = was.awaited_call; room = was.room })
 
   pub boxes-begin : AreBoxesInStep parts history grant now
   boxes-begin = record {

@@ -1,12 +1,14 @@
--- What a node hears in the program by the machine's reply is what the node of the cube hears, with the machine's names.
+-- What a node hears in the program by the machine's reply is what the node of the cube hears, with
+-- the machine's names.
 use Rattle.std.proofs.Common.{◌≡◌, ℕ, true, false, if◌then◌else◌, Bool, List, [], ◌∷◌, map, find, Option, Some, None, option_map, option_and_then, refl, ap, sym, ◌∙◌}
 use Rattle.std.specs.List.{AllByRecursion}
+use Rattle.ce_model.specs.declared.calls.TheConstants.{DONE, USED_ID}
 use Rattle.ce_model.specs.declared.topology.Place.{Place}
 use Rattle.ce_model.specs.declared.topology.BlockId.{BlockId}
 use Rattle.ce_model.specs.declared.entry.What.{What}
 use Rattle.ce_model.specs.declared.entry.What.TheVariants as whats
-use Rattle.ce_model.specs.declared.entry.KillFound.{KillFound}
-use Rattle.ce_model.specs.declared.entry.KillFound.TheVariants as kill_found
+use Rattle.ce_model.specs.declared.entry.KillResult.{KillResult}
+use Rattle.ce_model.specs.declared.entry.KillResult.TheVariants as kill_result
 use Rattle.ce_model.specs.declared.entry.TakeResult.{TakeResult}
 use Rattle.ce_model.specs.declared.entry.TakeResult.TheVariants as take_result
 use Rattle.ce_model.specs.Parcels as model
@@ -15,8 +17,8 @@ use Rattle.ce_model.specs.Hearing.{mail_of, nothing, answer_of}
 use Rattle.ce_model.specs.Cube.{parcel_numbered, hearing_of_parcel, hearing_of_result, hearing_of_entry, kill_answer}
 use Rattle.ce_model.specs.Renaming.{renamed_parcel, renamed_item, renamed_hearing, renamed_what}
 use Rattle.rk_mail.specs.declared.talk.Hearing.{Hearing}
-use Rattle.rk_mail.specs.Talk.{hearing_model, kill_hearing, IsGiven, IsHeardIn}
-use Rattle.ce_solo.specs.Laws.{IsHeardOf}
+use Rattle.rk_mail.specs.Talk.{hearing_model, kill_hearing, IsHearingOfTake, IsHearingOfEntry}
+use Rattle.ce_solo.specs.Laws.{IsHearingOfCube}
 use Rattle.ce_solo.proofs.Items.{parcel_ids}
 use Rattle.ce_solo.proofs.Made.{find-all}
 use Rattle.ce_model.specs.Owners.{IsBlockOf}
@@ -61,34 +63,34 @@ module _ (rename : BlockId → BlockId) where
   mail-heard None parcel e = absurd (cc)
   mail-heard (Some own) parcel e = ap (λ found. elim found [ None ↦ nothing | Some p ↦ mail_of p ]) (sym e)
 
-  given-heard : (items : List Item) (given : TakeResult) (heard : Hearing) → IsGiven (map (renamed_item rename) items) given heard
-      → hearing_model heard ≡ renamed_hearing rename (hearing_of_result items given)
-  given-heard items (take_result.Start pid image) heard is = ap hearing_model is
-  given-heard items (take_result.Mail pid number) heard is =
+  given-heard : (items : List Item) (given : TakeResult) (hearing : Hearing) → IsHearingOfTake (map (renamed_item rename) items) given hearing
+      → hearing_model hearing ≡ renamed_hearing rename (hearing_of_result items given)
+  given-heard items (take_result.Start pid image) hearing is = ap hearing_model is
+  given-heard items (take_result.Mail pid number) hearing is =
       ap hearing_model is.1 ∙ mail-heard (parcel_numbered number items) _ (sym (numbered-renamed number items) ∙ is.2)
-  given-heard items (take_result.Kill pid) heard is = ap hearing_model is
-  given-heard items (take_result.Poll pid) heard is = ap hearing_model is
-  given-heard items take_result.Idle heard is = ap hearing_model is
-  given-heard items take_result.Spent heard is = ap hearing_model is
+  given-heard items (take_result.Kill pid) hearing is = ap hearing_model is
+  given-heard items (take_result.Poll pid) hearing is = ap hearing_model is
+  given-heard items take_result.Idle hearing is = ap hearing_model is
+  given-heard items take_result.Spent hearing is = ap hearing_model is
 
-  fresh-heard : (fresh : Bool) (heard : Hearing) → IsHeardIn [] (whats.Spawn 0 0 (record { node = 0; pid = 0 }) fresh) heard → hearing_model heard ≡ answer_of (if fresh then 0 else 2)
-  fresh-heard true heard is = ap hearing_model is
-  fresh-heard false heard is = ap hearing_model is
+  fresh-heard : (fresh : Bool) (hearing : Hearing) → IsHearingOfEntry [] (whats.Spawn 0 0 (record { node = 0; pid = 0 }) fresh) hearing → hearing_model hearing ≡ answer_of (if fresh then DONE else USED_ID)
+  fresh-heard true hearing is = ap hearing_model is
+  fresh-heard false hearing is = ap hearing_model is
 
-  kill-heard : (found : KillFound) (heard : Hearing) → heard ≡ kill_hearing found → hearing_model heard ≡ answer_of (kill_answer found)
-  kill-heard kill_found.Killed heard is = ap hearing_model is
-  kill-heard kill_found.Unused heard is = ap hearing_model is
-  kill-heard kill_found.Already heard is = ap hearing_model is
+  kill-heard : (found : KillResult) (hearing : Hearing) → hearing ≡ kill_hearing found → hearing_model hearing ≡ answer_of (kill_answer found)
+  kill-heard kill_result.Killed hearing is = ap hearing_model is
+  kill-heard kill_result.Unused hearing is = ap hearing_model is
+  kill-heard kill_result.Already hearing is = ap hearing_model is
 
   -- an entry's places and blocks may have any names
-  pub reply-heard : (place : Place → Place) (block : BlockId → BlockId) (items : List Item) (what : What) (heard : Hearing) → IsHeardIn (map (renamed_item rename) items) what heard
-      → hearing_model heard ≡ renamed_hearing rename (hearing_of_entry items (renamed_what place block what))
-  reply-heard place block items (whats.Take asking dead poller given) heard is = given-heard items given heard is
-  reply-heard place block items (whats.Send pid first to bytes) heard is = ap hearing_model is
-  reply-heard place block items (whats.Spawn pid image to fresh) heard is = fresh-heard fresh heard is
-  reply-heard place block items (whats.Kill pid to found) heard is = kill-heard found heard is
-  reply-heard place block items (whats.Note pid word) heard is = ap hearing_model is
-  reply-heard place block items other heard is = absurd is
+  pub reply-heard : (place : Place → Place) (block : BlockId → BlockId) (items : List Item) (what : What) (hearing : Hearing) → IsHearingOfEntry (map (renamed_item rename) items) what hearing
+      → hearing_model hearing ≡ renamed_hearing rename (hearing_of_entry items (renamed_what place block what))
+  reply-heard place block items (whats.Take asking dead poller given) hearing is = given-heard items given hearing is
+  reply-heard place block items (whats.Send pid first to bytes) hearing is = ap hearing_model is
+  reply-heard place block items (whats.Spawn pid image to fresh) hearing is = fresh-heard fresh hearing is
+  reply-heard place block items (whats.Kill pid to found) hearing is = kill-heard found hearing is
+  reply-heard place block items (whats.Note pid word) hearing is = ap hearing_model is
+  reply-heard place block items other hearing is = absurd is
 
 -- ---- whose block comes with a parcel
 
@@ -102,13 +104,13 @@ items_in dim (start pid image ∷ items) all = (tt, items_in dim items all)
 items_in dim (mail parcel ∷ items) all = (all.0, items_in dim items all.1)
 items_in dim (kill pid ∷ items) all = (tt, items_in dim items all)
 
-found_in : (dim : ℕ) (found : Option Item) → ((item : Item) → found ≡ Some item → IsItemIn dim item) → IsHeardOf dim (hearing_of_parcel (option_and_then parcel_in found))
+found_in : (dim : ℕ) (found : Option Item) → ((item : Item) → found ≡ Some item → IsItemIn dim item) → IsHearingOfCube dim (hearing_of_parcel (option_and_then parcel_in found))
 found_in dim None is = tt
 found_in dim (Some (start pid image)) is = tt
 found_in dim (Some (mail parcel)) is = is (mail parcel) refl
 found_in dim (Some (kill pid)) is = tt
 
-given_in : (dim : ℕ) (items : List Item) (given : TakeResult) → AllByRecursion (IsItemIn dim) items → IsHeardOf dim (hearing_of_result items given)
+given_in : (dim : ℕ) (items : List Item) (given : TakeResult) → AllByRecursion (IsItemIn dim) items → IsHearingOfCube dim (hearing_of_result items given)
 given_in dim items (take_result.Start pid image) all = tt
 given_in dim items (take_result.Mail pid number) all =
     found_in dim (find (is_named_by (take_result.Mail 0 number)) items) (λ item e. find-all (IsItemIn dim) (is_named_by (take_result.Mail 0 number)) items item all e)
@@ -117,12 +119,12 @@ given_in dim items (take_result.Poll pid) all = tt
 given_in dim items take_result.Idle all = tt
 given_in dim items take_result.Spent all = tt
 
-hearing_of_entry-in : (dim : ℕ) (items : List Item) (what : What) → AllByRecursion (IsItemIn dim) items → IsHeardOf dim (hearing_of_entry items what)
+hearing_of_entry-in : (dim : ℕ) (items : List Item) (what : What) → AllByRecursion (IsItemIn dim) items → IsHearingOfCube dim (hearing_of_entry items what)
 hearing_of_entry-in dim items (whats.Take asking dead poller given) all = given_in dim items given all
 hearing_of_entry-in dim items (whats.Send pid first to bytes) all = tt
 hearing_of_entry-in dim items (whats.Spawn pid image to fresh) all = tt
 hearing_of_entry-in dim items (whats.Kill pid to found) all = tt
 hearing_of_entry-in dim items other all = tt
 
-pub heard-of : (dim : ℕ) (items : List Item) (what : What) → AllByRecursion (IsBlockOf dim) (parcel_ids items) → IsHeardOf dim (hearing_of_entry items what)
+pub heard-of : (dim : ℕ) (items : List Item) (what : What) → AllByRecursion (IsBlockOf dim) (parcel_ids items) → IsHearingOfCube dim (hearing_of_entry items what)
 heard-of dim items what all = hearing_of_entry-in dim items what (items_in dim items all)

@@ -1,4 +1,5 @@
--- A Take without work leaves its node quiet, or the dispatches are used up; so does a serial round of them.
+-- A Take without work leaves its node quiet, or the dispatches are used up; so does a serial round
+-- of them.
 use Rattle.std.proofs.Common.{◌≡◌, ◌⊎◌, ℕ, zero, suc, ◌+◌, ◌^◌, ◌<◌, ◌≤◌, Bool, true, false, not, ◌&&◌, ◌||◌, ◌==◌, List, [], ◌∷◌, ◌++◌, find, Option, Some, None, refl, ap, sym, ◌∙◌, subst, inl, inr, arith, append-nil, append_assoc}
 use Rattle.std.specs.List.{AllZip, list_any, range_with_len}
 use Rattle.std.proofs.lemmas.Bool.{cases_Bool, cases_eq, both_ways, eq-eqb, eqb-true, or_left, or_right, or_parts}
@@ -16,12 +17,12 @@ use Rattle.ce_model.specs.Saying.{Saying, says}
 use Rattle.ce_model.specs.Hearing.{node_after_hearing}
 use Rattle.ce_model.specs.Trace.{NodeRecord, standing}
 use Rattle.ce_model.specs.Answers.{offer_of, is_used_up, is_quiet_node, is_quiet, answer}
-use Rattle.ce_model.specs.Cube.{Cube, CubeState, IsCube, HostCall, state_after_trace, node_numbers, IsNext}
+use Rattle.ce_model.specs.Cube.{Cube, CubeState, IsCube, Wish, state_after_trace, node_numbers, IsNext}
 use Rattle.ce_model.specs.Sound.{IsSound}
 use Rattle.ce_model.proofs.Walked.{each_of_front, each_behind}
 use Rattle.ce_model.proofs.Subcubes.{list_all-each}
 use Rattle.ce_script.specs.Rounds.{is_take, is_dispatch, has_work, asks_for_work, IsTurn, joined_lists, IsSerialRound}
-use Rattle.ce_solo.proofs.Lists.{appended, appended-is}
+use Rattle.ce_solo.proofs.Lists.{with_appended, with_appended-is}
 use Rattle.ce_solo.proofs.Sending.{not_host}
 use Rattle.ce_solo.proofs.Entries.{state_after}
 use Rattle.ce_solo.proofs.Words.{HasMadeCall}
@@ -80,7 +81,7 @@ abbrev IsTakenIn : Cube → CubeState → ℕ → What → Type 0
 IsTakenIn cube s r (Take asking dead poller given) = IsTaken cube s r asking dead poller given
 IsTakenIn cube s r other = Unit {0}
 
-call-taken : (cube : Cube) (s : CubeState) → IsCube cube → IsSound cube s → (actor : ℕ) (wish : Option HostCall) (call : Call) → IsMadeCall cube s actor wish call
+call-taken : (cube : Cube) (s : CubeState) → IsCube cube → IsSound cube s → (actor : ℕ) (wish : Option Wish) (call : Call) → IsMadeCall cube s actor wish call
     → IsTakenIn cube s actor (answer (node_numbers cube.dim) s.standing actor call)
 unfolding answer
 call-taken cube s of sound actor wish (take_call asking dead poller) (by_host is e) = absurd (no_take cube s wish (take_call asking dead poller) refl e)
@@ -109,10 +110,10 @@ module _ (cube : Cube) (of : IsCube cube) (o : CubeState) where
     pub others : (q : ℕ) → (r == q) ≡ false → is_quiet_at q s' ≡ is_quiet_at q s
     pub own : (is_used_up s.standing ≡ true) ⊎ (is_quiet_at r s' ≡ true)
 
-  nothing_more : (items : List Item) (asking dead : ℕ) → list_any (is_eligible asking dead) (appended items []) ≡ list_any (is_eligible asking dead) items
-  nothing_more items asking dead = ap (list_any (is_eligible asking dead)) (sym (appended-is items []) ∙ append-nil items)
+  nothing_more : (items : List Item) (asking dead : ℕ) → list_any (is_eligible asking dead) (with_appended items []) ≡ list_any (is_eligible asking dead) items
+  nothing_more items asking dead = ap (list_any (is_eligible asking dead)) (sym (with_appended-is items []) ∙ append-nil items)
 
-  quiet_same : (kept : NodeRecord) → is_quiet_node (record kept { waiting_items = appended kept.waiting_items [] }) ≡ is_quiet_node kept
+  quiet_same : (kept : NodeRecord) → is_quiet_node (record kept { waiting_items = with_appended kept.waiting_items [] }) ≡ is_quiet_node kept
   quiet_same kept = ap (λ b. kept.mark.is_idle && not b) (nothing_more kept.waiting_items kept.mark.asking kept.mark.dead)
 
   asks_still : (s : CubeState) (r asking dead : ℕ) (poller : Option ℕ) (given : TakeResult) → IsTaken cube s r asking dead poller given
@@ -160,7 +161,7 @@ module _ (cube : Cube) (of : IsCube cube) (o : CubeState) where
 
   -- ---- a turn without work is its Take alone
 
-  entry_takes : (s : CubeState) (actor : ℕ) (wish : Option HostCall) (call : Call) → IsMadeCall cube s actor wish call → actor < 2 ^ cube.dim
+  entry_takes : (s : CubeState) (actor : ℕ) (wish : Option Wish) (call : Call) → IsMadeCall cube s actor wish call → actor < 2 ^ cube.dim
       → asks_for_work (says (s.node actor)).call ≡ true → is_take (entry_of cube.user actor (answer (node_numbers cube.dim) s.standing actor call)) ≡ true
   entry_takes s actor wish call (by_host is e) below asks = absurd (omega (arith, not_host cube actor of below, is))
   entry_takes s actor wish call (by_node low e) below asks =

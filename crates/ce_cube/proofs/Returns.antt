@@ -19,15 +19,15 @@ use Rattle.ce_solo.proofs.Counting.{count, count-append, count-is, count-put_all
 use Rattle.ce_solo.proofs.Lists.{one_if, one_if-le}
 use Rattle.ce_solo.proofs.Renaming.Grants.{few_nodes}
 use Rattle.ce_solo.proofs.Projection.Numbers.{IsPlaced}
-use Rattle.xm_block.specs.Rising as rising
-use Rattle.xm_block.specs.Stores.{BlockStore, ids_of, is_before}
+use Rattle.ce_model.specs.Rising as rising
+use Rattle.xm_block.specs.Stores.{BlockStore, ids_of, is_block_before}
 use Rattle.ce_daemon.specs.Boxes.{AreBoxes}
 use Rattle.ce_host.specs.declared.host.Host.{Host}
-use Rattle.rk_node.specs.Boxes.{Box, IsClean}
-use Rattle.rk_node.specs.Hearings.{AreApartFrom}
-use Rattle.ce_cube.specs.Crews.{box_at, HasAllBlocks, IsHostAtHome}
+use Rattle.rk_node.specs.Boxes.{Box, IsCleanBox}
+use Rattle.rk_node.specs.Hearings.{AreNewToStore}
+use Rattle.ce_cube.specs.Crews.{box_at, HasAllBlocks, IsHostAtHome, IsIdleBox}
 use Rattle.ce_cube.specs.Rehoming.{is_block_of, AreAllBlocks}
-use Rattle.ce_cube.specs.Homecoming.{IsIdle, IsEmptied, names_in_boxes, emptied_box, refilled_box, names_at_home, HasPrefix}
+use Rattle.ce_cube.specs.Homecoming.{IsEmptiedBox, names_in_boxes, emptied_box, refilled_box, names_at_home, HasPrefix}
 use Rattle.ce_cube.proofs.Homes.{names_of_cube, length-cube, length-whole, whole-store}
 
 -- ---- lists by index
@@ -45,18 +45,18 @@ flat-same f g from (suc n) each =
 
 -- ---- stores and boxes
 
-rising-head : (block : Block) (blocks : List Block) → rising.IsRising is_before (block ∷ blocks) → AllByRecursion (λ id. is_lower block.id id ≡ true) (ids_of blocks)
+rising-head : (block : Block) (blocks : List Block) → rising.IsRising is_block_before (block ∷ blocks) → AllByRecursion (λ id. is_lower block.id id ≡ true) (ids_of blocks)
 rising-head block [] pairs = tt
 rising-head block (other ∷ blocks) pairs =
     (pairs 0 1 block (omega arith) (omega arith), rising-head block blocks (λ i j d low high. skip i j d low high))
   where
-    skip : (i j : ℕ) (d : Block) → i < j → j < length (block ∷ blocks) → (is_before (get_or (block ∷ blocks) i d) (get_or (block ∷ blocks) j d)) ≡ true
+    skip : (i j : ℕ) (d : Block) → i < j → j < length (block ∷ blocks) → (is_block_before (get_or (block ∷ blocks) i d) (get_or (block ∷ blocks) j d)) ≡ true
     skip zero zero d low high = absurd (omega (arith, low))
     skip zero (suc j) d low high = pairs 0 (suc (suc j)) d (omega arith) (omega (arith, high))
     skip (suc i) zero d low high = absurd (omega (arith, low))
     skip (suc i) (suc j) d low high = pairs (suc (suc i)) (suc (suc j)) d (omega (arith, low)) (omega (arith, high))
 
-rising-ids : (blocks : List Block) → rising.IsRising is_before blocks → AreInOrder (ids_of blocks)
+rising-ids : (blocks : List Block) → rising.IsRising is_block_before blocks → AreInOrder (ids_of blocks)
 rising-ids [] pairs = tt
 rising-ids (block ∷ blocks) pairs =
     (rising-head block blocks pairs, rising-ids blocks (λ i j d low high. pairs (suc i) (suc j) d (omega (arith, low)) (omega (arith, high))))
@@ -65,8 +65,8 @@ no_windows : (n : ℕ) → flat_map (λ p. mapped_ids p.space) (replicate n unbo
 no_windows zero = refl
 no_windows (suc n) = no_windows n
 
-clean : (box : Box) → IsIdle box → greatest_blocks ≤ box.room → IsClean (refilled_box (emptied_box box))
-clean box idle room = record { node = refl; out = idle; room = room }
+clean : (box : Box) → IsIdleBox box → greatest_blocks ≤ box.room → IsCleanBox (refilled_box (emptied_box box))
+clean box idle room = record { node = refl; awaited_call = idle; room = room }
 
 -- a subcube of a machine is one of the greatest
 pub placed-sub : (dim : ℕ) (grant : CubeGrant) → IsPlaced dim grant → IsSubcube greatest_dim grant.dim grant.sub
@@ -131,12 +131,12 @@ module _ (grant : CubeGrant) (boxes : List Box) (host : Host) (drained : List Bl
 
   -- ---- names apart
 
-  pub boxes-apart : AreApartFrom names host.store
+  pub boxes-apart : AreNewToStore names host.store
   boxes-apart = record {
     apart = λ id. omega (arith, count-append id names (ids_of host.store.blocks), counted id, one_if-le (is_block_of grant id));
   }
 
-  pub drained-apart : (store : BlockStore) → ids_of store.blocks ≡ with_ids names (ids_of host.store.blocks) → AreApartFrom (ids_of drained) store
+  pub drained-apart : (store : BlockStore) → ids_of store.blocks ≡ with_ids names (ids_of host.store.blocks) → AreNewToStore (ids_of drained) store
   drained-apart store moved = record {
     apart = λ id. omega (
       arith,
@@ -153,22 +153,22 @@ module _ (grant : CubeGrant) (boxes : List Box) (host : Host) (drained : List Bl
   ready-at : (r : ℕ) (d : Box) → r < length boxes → box_at boxes r ≡ get_or boxes r d
   ready-at r d below = get_or_default boxes r other d below
 
-  pub boxes-idle : All IsIdle boxes
-  boxes-idle r d below = subst IsIdle (ready-at r d below) (holds.ready r (omega (arith, below, holds.all))).idle
+  pub boxes-idle : All IsIdleBox boxes
+  boxes-idle r d below = subst IsIdleBox (ready-at r d below) (holds.ready r (omega (arith, below, holds.all))).idle
 
   room-at : (r : ℕ) (d : Box) → r < length boxes → greatest_blocks ≤ (get_or boxes r d).room
   room-at r d below = subst (λ (box : Box). greatest_blocks ≤ box.room) (ready-at r d below) (holds.ready r (omega (arith, below, holds.all))).room
 
-  pub boxes-emptied : (some : List Box) → some ≡ map emptied_box boxes → All IsEmptied some
+  pub boxes-emptied : (some : List Box) → some ≡ map emptied_box boxes → All IsEmptiedBox some
   boxes-emptied some are r d below =
       let within : r < length boxes = omega (arith, below, ap (λ xs. length xs) are, length-map boxes emptied_box) in
       let is : get_or some r d ≡ emptied_box (get_or boxes r d) = ap (λ xs. get_or xs r d) are ∙ get_or-map emptied_box boxes r d d within in
-      subst IsEmptied (sym is) (record { none = no_windows process_count; room = omega (arith, room-at r d within, greatest_blocks_lem, home_blocks_lem) })
+      subst IsEmptiedBox (sym is) (record { none = no_windows process_count; room = omega (arith, room-at r d within, greatest_blocks_lem, home_blocks_lem) })
 
   -- ---- the store with all blocks
 
   pub gathered : (first store : BlockStore) → ids_of first.blocks ≡ with_ids names (ids_of host.store.blocks)
-      → ids_of store.blocks ≡ with_ids (ids_of drained) (ids_of first.blocks) → rising.IsRising is_before store.blocks → ids_of store.blocks ≡ names_of_cube grant
+      → ids_of store.blocks ≡ with_ids (ids_of drained) (ids_of first.blocks) → rising.IsRising is_block_before store.blocks → ids_of store.blocks ≡ names_of_cube grant
   gathered first store of_boxes of_drained pairs =
       whole-store grant holds.sub (ids_of store.blocks) (rising-ids store.blocks pairs)
       (λ id. ap (count id) of_drained ∙ count-put_all id (ids_of drained) (ids_of first.blocks)
@@ -201,7 +201,7 @@ module _ (grant : CubeGrant) (boxes : List Box) (host : Host) (drained : List Bl
   -- ---- all at home
 
   pub boxes-home : (some there : List Box) → some ≡ map emptied_box boxes → there ≡ map refilled_box some
-      → AreBoxes (λ (box : Box). box.node.home) IsClean n (node_of grant.sub) there
+      → AreBoxes (λ (box : Box). box.node.home) IsCleanBox n (node_of grant.sub) there
   boxes-home some there are filled =
       let is : there ≡ map refilled_box (map emptied_box boxes) = filled ∙ ap (map refilled_box) are in
       record {
@@ -212,7 +212,7 @@ module _ (grant : CubeGrant) (boxes : List Box) (host : Host) (drained : List Bl
             ap (λ xs. get_or xs r d) is ∙ get_or-map refilled_box (map emptied_box boxes) r d d (omega (arith, within, length-map boxes emptied_box))
             ∙ ap refilled_box (get_or-map emptied_box boxes r d d within) in
             let home : (get_or boxes r d).node.home ≡ node_of grant.sub r = ap (λ (box : Box). box.node.home) (sym (ready-at r d within)) ∙ holds.homes r below in
-            (ap (λ (box : Box). box.node.home) at ∙ home, subst IsClean (sym at) (clean (get_or boxes r d) (boxes-idle r d within) (room-at r d within))));
+            (ap (λ (box : Box). box.node.home) at ∙ home, subst IsCleanBox (sym at) (clean (get_or boxes r d) (boxes-idle r d within) (room-at r d within))));
       }
 
   pub host-home : (some : List Box) (first second third : BlockStore) → some ≡ map emptied_box boxes

@@ -6,7 +6,7 @@ use Rattle.ce_model.specs.declared.topology.BlockId.{BlockId}
 use Rattle.ce_model.specs.declared.entry.Entry.{Entry}
 use Rattle.ce_model.specs.Node.{Node, Call, take_call, send_call, spawn_call, kill_call, note_call, arm_call, look_call, mail_call}
 use Rattle.ce_model.specs.Saying.{Saying, says}
-use Rattle.ce_model.specs.Cube.{Cube, CubeState, opening, actor_call, HostCall, host_call_of, next_call}
+use Rattle.ce_model.specs.Cube.{Cube, CubeState, opening, actor_call, Wish, wish_of_call, next_call}
 use Rattle.ce_model.specs.Subcubes.{node_of}
 use Rattle.ce_model.specs.Renaming.{block_outward, renamed_call_blocks}
 use Rattle.ce_model.specs.Views.{view}
@@ -33,7 +33,7 @@ asks-renamed rename look_call = refl
 asks-renamed rename mail_call = refl
 
 -- a node makes the call that it says
-call_by-node : (cube : Cube) (o : CubeState) (t : List Entry) (r : ℕ) (wish : Option HostCall) → (r == HOST) ≡ false → r < 2 ^ cube.dim
+call_by-node : (cube : Cube) (o : CubeState) (t : List Entry) (r : ℕ) (wish : Option Wish) → (r == HOST) ≡ false → r < 2 ^ cube.dim
     → actor_call cube o t r wish ≡ Some (next_call cube o r t)
 call_by-node cube o t r wish node below = let is = lt-ltb r (2 ^ cube.dim) below in rw (node, is) refl
 
@@ -47,8 +47,8 @@ module _ (parts : MachineParts) (history : List Entry) (cube : HeldCube) (now : 
       record {
         inner = (says node).call;
         inside = inr (is_inside-node_of cube.grant.sub r now.placed.sub.apart (rw now.placed.sub.dimension below));
-        next = ap (λ actor. actor_call own (opening own) (view history cube.number) actor (host_call_of (says node).call)) (relative_out parts.dim cube.grant now.placed r below)
-            ∙ call_by-node own (opening own) (view history cube.number) r (host_call_of (says node).call) (node_no_host parts.dim cube.grant now.placed r below) below;
+        next = ap (λ actor. actor_call own (opening own) (view history cube.number) actor (wish_of_call (says node).call)) (relative_out parts.dim cube.grant now.placed r below)
+            ∙ call_by-node own (opening own) (view history cube.number) r (wish_of_call (says node).call) (node_no_host parts.dim cube.grant now.placed r below) below;
         renamed = sym is;
         within = λ host. absurd (both_ways _ (out_no_host parts.dim cube.grant now.placed r) host);
         not_drained = now.goes;

@@ -1,4 +1,5 @@
--- A node of a cube that is held, and the box that stands for it: both say the same, with other names.
+-- A node of a cube that is held, and the box that stands for it: both say the same, with other
+-- names.
 use Rattle.std.proofs.Common.{◌≡◌, ℕ, ◌^◌, ◌<◌, ◌≤◌, IsTrue, List, refl, ap, sym, ◌∙◌, inl, inr, arith}
 use Rattle.std.specs.List.{AllByRecursion}
 use Rattle.ce_model.specs.declared.topology.BlockId.{BlockId}
@@ -12,10 +13,10 @@ use Rattle.ce_model.specs.Owners.{IsBlockOf}
 use Rattle.ce_model.specs.Views.{view}
 use Rattle.ce_model.specs.Machine.{MachineParts, HeldCube, cube_of}
 use Rattle.ce_script.specs.Rounds.{asks_for_work}
-use Rattle.ce_solo.specs.Laws.{IsNodeOf, IsHeardOf}
+use Rattle.ce_solo.specs.Laws.{IsNodeOf, IsHearingOfCube}
 use Rattle.ce_solo.proofs.Counting.{count, count-nil, sum_run-part}
 use Rattle.ce_solo.proofs.Items.{parcel_ids}
-use Rattle.ce_solo.proofs.Totals.{at_node, at_node-is, total, total-is}
+use Rattle.ce_solo.proofs.Totals.{count_at_node, count_at_node-is, total, total-is}
 use Rattle.ce_solo.proofs.Room.{held_blocks}
 use Rattle.ce_solo.proofs.Words.{HasMadeCall, IsCallOf}
 use Rattle.ce_solo.proofs.Made.{made-leaves}
@@ -42,22 +43,22 @@ module _ (parts : MachineParts) (history : List Entry) (cube : HeldCube) (now : 
   abbrev pub s : CubeState
   s = state_after_trace own (opening own) (view history cube.number)
 
-  at_most : (id : BlockId) → at_node id s r ≤ total id cube.grant.dim s
-  at_most id = omega (arith, total-is id cube.grant.dim s, sum_run-part (at_node id s) r 0 (2 ^ cube.grant.dim) (omega arith) (omega (arith, below)))
+  at_most : (id : BlockId) → count_at_node id s r ≤ total id cube.grant.dim s
+  at_most id = omega (arith, total-is id cube.grant.dim s, sum_run-part (count_at_node id s) r 0 (2 ^ cube.grant.dim) (omega arith) (omega (arith, below)))
 
   pub node-said : HasMadeCall (s.node r) (says (s.node r)).node (says (s.node r)).call
   node-said = made-leaves own s r (says (s.node r)).call now.of below now.stands.sound refl
 
   node-blocks : IsNodeOf cube.grant.dim (s.node r)
-  node-blocks = held_blocks own s (blocks_of (s.node r)) now.stands.sound (λ id. omega (arith, at_node-is id s r, at_most id))
+  node-blocks = held_blocks own s (blocks_of (s.node r)) now.stands.sound (λ id. omega (arith, count_at_node-is id s r, at_most id))
 
   pub rest-blocks : IsNodeOf cube.grant.dim (says (s.node r)).node
   rest-blocks =
       held_blocks own s (blocks_of (says (s.node r)).node) now.stands.sound
-      (λ id. omega (arith, at_node-is id s r, at_most id, node-said.became.blocks id, count-nil id))
+      (λ id. omega (arith, count_at_node-is id s r, at_most id, node-said.became.blocks id, count-nil id))
 
   pub parcel-blocks : AllByRecursion (IsBlockOf cube.grant.dim) (parcel_ids (s.standing.node_record r).waiting_items)
-  parcel-blocks = held_blocks own s (parcel_ids (s.standing.node_record r).waiting_items) now.stands.sound (λ id. omega (arith, at_node-is id s r, at_most id))
+  parcel-blocks = held_blocks own s (parcel_ids (s.standing.node_record r).waiting_items) now.stands.sound (λ id. omega (arith, count_at_node-is id s r, at_most id))
 
   pub rest-again : IsTrue (asks_for_work (says (s.node r)).call) → says (says (s.node r)).node ≡ says (s.node r)
   rest-again asks = asks_again (says (s.node r)).node (says (s.node r)).call node-said.of_node asks
@@ -72,10 +73,10 @@ module _ (parts : MachineParts) (history : List Entry) (cube : HeldCube) (now : 
       ap says step.at_rest ∙ says_outward (says (s.node r)).node rest-blocks ∙ ap (saying_outward cube.grant) (rest-again step.asks)
 
   -- and hears what it hears
-  pub rest-hears : (heard : Hearing) → IsHeardOf cube.grant.dim heard
-      → node_after_hearing parts.images (node_outward cube.grant (says (s.node r)).node) (renamed_hearing (block_outward cube.grant) heard)
-      ≡ node_outward cube.grant (node_after_hearing parts.images (says (s.node r)).node heard)
-  rest-hears heard is = (renaming parts.dim cube.grant (says (s.node r)).node (placed-grant parts.dim cube.grant now.placed) rest-blocks).1 parts.images heard is
+  pub rest-hears : (hearing : Hearing) → IsHearingOfCube cube.grant.dim hearing
+      → node_after_hearing parts.images (node_outward cube.grant (says (s.node r)).node) (renamed_hearing (block_outward cube.grant) hearing)
+      ≡ node_outward cube.grant (node_after_hearing parts.images (says (s.node r)).node hearing)
+  rest-hears hearing is = (renaming parts.dim cube.grant (says (s.node r)).node (placed-grant parts.dim cube.grant now.placed) rest-blocks).1 parts.images hearing is
 
   -- a box at rest says again what it says where that asks for work
   pub box-again : (box : Node) → IsStandIn cube.grant (s.node r) box → IsTrue (asks_for_work (says (s.node r)).call) → says (says box).node ≡ says box

@@ -6,7 +6,7 @@ use Rattle.std.proofs.lemmas.Bool.{cases_Bool, cases_eq, eq-eqb}
 use Rattle.std.proofs.lemmas.List.Elements.{Contains-append_left, Contains-append_right}
 use Rattle.ce_model.specs.declared.topology.Subcube.{Subcube}
 use Rattle.ce_model.specs.Limits.{greatest_dim}
-use Rattle.ce_model.specs.Subcubes.{is_base, ones_of, subcube, with_mask, subcubes, IsSubcube}
+use Rattle.ce_model.specs.Subcubes.{is_base, ones_of, subcube, subcubes_with_mask, subcubes, IsSubcube}
 
 listed_image : {X : Type 0} (image : ℕ → X) (picked : ℕ → Bool) (from count n : ℕ) → from ≤ n → n < from + count → picked n ≡ true
     → Contains (map image (filter picked (range_with_len from count))) (image n)
@@ -37,5 +37,5 @@ listed_among images picked from (suc count) n x low high good is =
 pub subcube-listed : (dim d : ℕ) (sub : Subcube) → IsSubcube dim d sub → Contains (subcubes dim d) sub
 unfolding subcubes
 subcube-listed dim d sub is =
-    listed_among (with_mask (2 ^ dim)) (λ mask. ones_of greatest_dim mask == d) 0 (2 ^ dim) sub.mask sub (omega arith) (omega (arith, is.mask_within)) (eq-eqb _ _ is.dimension)
+    listed_among (subcubes_with_mask (2 ^ dim)) (λ mask. ones_of greatest_dim mask == d) 0 (2 ^ dim) sub.mask sub (omega arith) (omega (arith, is.mask_within)) (eq-eqb _ _ is.dimension)
     (listed_image (subcube sub.mask) (is_base sub.mask) 0 (2 ^ dim) sub.base (omega arith) (omega (arith, is.base_within)) (eq-eqb _ _ is.apart))

@@ -15,13 +15,13 @@ use Rattle.ce_solo.proofs.Lists.{all-append}
 use Rattle.ce_daemon.specs.declared.grant.Grant.{Grant}
 use Rattle.rk_node.specs.Boxes.{Box}
 use Rattle.rk_node.specs.Answering.{IsAwaitingAnswer}
-use Rattle.rk_node.specs.declared.out.Out.TheVariants.{Nothing}
+use Rattle.rk_node.specs.declared.awaited_call.AwaitedCall.TheVariants.{Nothing}
 use Rattle.ce_machine.specs.Meanings.{MachineFacts}
 use Rattle.ce_script.specs.Rounds.{entry_take_result, asks_for_work, is_take, is_dispatch, has_work, IsTurn}
 use Rattle.ce_cube.specs.Boxes.{IsSaidBy, IsInStep}
-use Rattle.ce_cube.specs.Crews.{IsReady}
+use Rattle.ce_cube.specs.Crews.{IsReadyBox}
 use Rattle.ce_daemon.specs.Peeks.{cube_grant}
-use Rattle.ce_cube.specs.Exchanges.{HasNode, IsBoxOfNode, HasSaidCall, HasGoneOnAt, HasExchanged, IsTurning, machine_node}
+use Rattle.ce_cube.specs.Exchanges.{HasNode, IsBoxOfNode, HasSaidCall, HasNodeGoneOn, HasExchanged, IsTurnUnderWay, machine_node}
 use Rattle.ce_cube.proofs.Says.{boxes-say, asks-renamed}
 use Rattle.ce_cube.proofs.Rounds.{are-made}
 
@@ -44,7 +44,7 @@ said-in m grant r box node is =
     boxes-say m.parts m.history grant.number (cube_grant grant) node.sound.within node.sound.lawful node.held r box.node node.within is.stands
 
 -- a box that is in step asks for work
-pub asks-first : (m : MachineFacts) (grant : Grant) (r : ℕ) (box : Box) → HasNode m grant r → IsReady box
+pub asks-first : (m : MachineFacts) (grant : Grant) (r : ℕ) (box : Box) → HasNode m grant r → IsReadyBox box
     → IsInStep (cube_grant grant) (machine_node m grant r) box.node → asks_for_work (says box.node).call ≡ true
 asks-first m grant r box node ready step =
     ap asks_for_work (said-in m grant r box node (record { ready = ready; stands = inr step })).call
@@ -52,8 +52,8 @@ asks-first m grant r box node ready step =
     ∙ step.asks
 
 -- calls of a node, and then others
-joined-at : (m now now' : MachineFacts) (grant : Grant) (r : ℕ) (made others : List Entry) → HasGoneOnAt m now grant r made → HasGoneOnAt now now' grant r others
-    → HasGoneOnAt m now' grant r (made ++ others)
+joined-at : (m now now' : MachineFacts) (grant : Grant) (r : ℕ) (made others : List Entry) → HasNodeGoneOn m now grant r made → HasNodeGoneOn now now' grant r others
+    → HasNodeGoneOn m now' grant r (made ++ others)
 joined-at m now now' grant r made others first next = record {
   parts = next.parts ∙ first.parts;
   history = next.history ∙ ap (λ h. h ++ others) first.history ∙ append_assoc m.history made others;
@@ -69,7 +69,7 @@ joined-at m now now' grant r made others first next = record {
 
 -- a turn begins with the call of a box that asks for work
 pub turn-starts : (m m' : MachineFacts) (grant : Grant) (r : ℕ) (box box' : Box) (call : Call) (work : Bool) → asks_for_work call ≡ true
-    → HasExchanged m m' grant r box box' call work → IsTurning m m' grant r box' work 1
+    → HasExchanged m m' grant r box box' call work → IsTurnUnderWay m m' grant r box' work 1
 turn-starts m m' grant r box box' call work asks done = record {
   new_entries = done.entry ∷ [];
   goes_on = done.goes_on;
@@ -81,8 +81,8 @@ turn-starts m m' grant r box box' call work asks done = record {
 }
 
 -- it goes on with each call that asks for no work
-pub turn-goes_on : (m now now' : MachineFacts) (grant : Grant) (r : ℕ) (box box' : Box) (call : Call) (work more : Bool) (count : ℕ) → IsTurning m now grant r box work count
-    → asks_for_work call ≡ false → HasExchanged now now' grant r box box' call more → IsTurning m now' grant r box' work (count + 1)
+pub turn-goes_on : (m now now' : MachineFacts) (grant : Grant) (r : ℕ) (box box' : Box) (call : Call) (work more : Bool) (count : ℕ) → IsTurnUnderWay m now grant r box work count
+    → asks_for_work call ≡ false → HasExchanged now now' grant r box box' call more → IsTurnUnderWay m now' grant r box' work (count + 1)
 turn-goes_on m now now' grant r box box' call work more count turn other done =
     let inner = entry_inward grant.sub done.entry in
     let no_take : is_take inner ≡ false = done.take ∙ other in
@@ -104,8 +104,8 @@ pub next-called : (m : MachineFacts) (grant : Grant) (r : ℕ) (box box' : Box) 
     → box'.room ≡ box.room → call ≡ (says box.node).call → IsAwaitingAnswer box' call → HasSaidCall m grant r box box' call
 next-called m grant r box box' call is node room call_is said = record { before = is; node = node; call_is = call_is; said = said; room = room }
 
-module _ (m now : MachineFacts) (grant : Grant) (r : ℕ) (box box' : Box) (work : Bool) (count : ℕ) (turn : IsTurning m now grant r box work count)
-    (node : box'.node ≡ (says box.node).node) (room : box'.room ≡ box.room) (idle : box'.out ≡ Nothing) (asks : asks_for_work (says box.node).call ≡ true) where
+module _ (m now : MachineFacts) (grant : Grant) (r : ℕ) (box box' : Box) (work : Bool) (count : ℕ) (turn : IsTurnUnderWay m now grant r box work count)
+    (node : box'.node ≡ (says box.node).node) (room : box'.room ≡ box.room) (idle : box'.awaited_call ≡ Nothing) (asks : asks_for_work (says box.node).call ≡ true) where
   -- a turn stops where the box asks for work again: it is in step then
   pub turn-steps : IsInStep (cube_grant grant) (machine_node now grant r) box'.node
   turn-steps =
@@ -113,7 +113,7 @@ module _ (m now : MachineFacts) (grant : Grant) (r : ℕ) (box box' : Box) (work
       ((said-in now grant r box turn.goes_on.node turn.stands).in_step asks)
 
   -- and stands for its node still
-  pub turn-stops : IsTurning m now grant r box' work count
+  pub turn-stops : IsTurnUnderWay m now grant r box' work count
   turn-stops = record {
     new_entries = turn.new_entries;
     goes_on = turn.goes_on;

@@ -13,13 +13,14 @@ use Rattle.ce_model.specs.Space.{Space, has_unused_window, block_named, places_a
 use Rattle.ce_model.specs.Process.{Process, argument, call_number, moved_process}
 use Rattle.ce_model.specs.Node.{Turn, Node, is_place, with_process, send_call, spawn_call, kill_call, process_at}
 use Rattle.ce_model.specs.Kernel.{CallOutcome, continuation, departure, turn_conclusion, return_outcome, stop_outcome, leave_outcome, read_outcome, process_left_behind, map_outcome, xmalloc, free_outcome, xfree, xlength, is_target, place_named, send_outcome, xsend, copies_outcome, xmsend_block, xmsend, spawn, ckill, KernelCall, kernel_calls, kernel_call, call_outcome, kernel}
-use Rattle.ce_model.specs.Saying.{Saying, after_call, after_instruction, instruction, turn_saying, saying_in, says}
+use Rattle.ce_model.specs.Saying.{Saying, saying_after_call, saying_after_instruction, instruction, turn_saying, saying_in, says}
 use Rattle.ce_solo.proofs.Calls.{call_numbered}
 use Rattle.ce_script.specs.Rounds.{asks_for_work}
 
 -- ---- one kernel call
 
--- a call in this turn leaves the turn as it is, and only a counted one leaves the node; it doesn't ask for work
+-- a call in this turn leaves the turn as it is, and only a counted one leaves the node; it doesn't
+-- ask for work
 abbrev IsOf : Bool → Turn → CallOutcome → Type 0
 IsOf is_counted turn (continuation node turn') = turn' ≡ turn
 IsOf is_counted turn (departure node call) = (is_counted ≡ true) × (node.turn ≡ Some turn) × (asks_for_work call ≡ false)
@@ -113,7 +114,8 @@ all_good = (
   ),
 )
 
--- a turn goes on with so many calls made, or more, or it has made one more than it had; or the node asks for work
+-- a turn goes on with so many calls made, or more, or it has made one more than it had; or the node
+-- asks for work
 abbrev IsSpent : ℕ → CallOutcome → Type 0
 IsSpent calls (continuation node turn) = calls ≤ turn.calls
 IsSpent calls (departure node call) = (turn : Turn) × (node.turn ≡ Some turn) × (calls < turn.calls) × (turn.calls ≤ turn_calls) × (asks_for_work call ≡ false)
@@ -149,31 +151,31 @@ kernel-spent node turn p = does-spent (kernel_call (call_number p)) node turn p 
 -- ---- a turn
 
 -- a turn that has made so many calls asks for work, or has made one more by the call that it says
-pub record HasCalled (calls : ℕ) (saying : Saying) : Type 0 where
+pub record HasSaidTurnCall (calls : ℕ) (saying : Saying) : Type 0 where
   pub turn : Turn
   pub is : saying.node.turn ≡ Some turn
   pub more : calls < turn.calls
   pub within : turn.calls ≤ turn_calls
 
 abbrev pub IsSpending : ℕ → Saying → Type 0
-IsSpending calls saying = (asks_for_work saying.call ≡ true) ⊎ HasCalled calls saying
+IsSpending calls saying = (asks_for_work saying.call ≡ true) ⊎ HasSaidTurnCall calls saying
 
 less-spending : (calls calls' : ℕ) (saying : Saying) → calls ≤ calls' → IsSpending calls' saying → IsSpending calls saying
 less-spending calls calls' saying less (inl asks) = inl asks
 less-spending calls calls' saying less (inr more) = inr (record { turn = more.turn; is = more.is; more = omega (arith, more.more); within = more.within })
 
 call-spending : (left calls : ℕ) (did : CallOutcome) → ((node : Node) (turn : Turn) → IsSpending turn.calls (turn_saying left node turn)) → IsSpent calls did
-    → IsSpending calls (after_call (turn_saying left) did)
+    → IsSpending calls (saying_after_call (turn_saying left) did)
 call-spending left calls (continuation node turn) onward is = less-spending calls turn.calls (turn_saying left node turn) is (onward node turn)
 call-spending left calls (departure node call) onward is = inr (record { turn = is.0; is = is.1; more = is.2; within = is.3 })
 call-spending left calls (turn_conclusion node) onward is = inl refl
 
 instruction-spending : (left : ℕ) (node : Node) (turn : Turn) (p : Process) (outcome : Outcome Space) → ((node : Node) (turn : Turn) → IsSpending turn.calls (turn_saying left node turn))
-    → IsSpending turn.calls (after_instruction (turn_saying left) left node turn p outcome)
-instruction-spending left node turn p (next_state regs pc space) onward = onward (with_process node turn.pid (moved_process p regs pc space)) turn
-instruction-spending left node turn p (call_state regs pc space) onward =
-    call-spending left turn.calls (kernel node (record turn { instructions_left = left }) (moved_process p regs pc space)) onward
-    (kernel-spent node (record turn { instructions_left = left }) (moved_process p regs pc space))
+    → IsSpending turn.calls (saying_after_instruction (turn_saying left) left node turn p outcome)
+instruction-spending left node turn p (next_state registers pc space) onward = onward (with_process node turn.pid (moved_process p registers pc space)) turn
+instruction-spending left node turn p (call_state registers pc space) onward =
+    call-spending left turn.calls (kernel node (record turn { instructions_left = left }) (moved_process p registers pc space)) onward
+    (kernel-spent node (record turn { instructions_left = left }) (moved_process p registers pc space))
 instruction-spending left node turn p (stop_state cause) onward = inl refl
 
 runs-spending : (left : ℕ) (node : Node) (turn : Turn) → IsSpending turn.calls (turn_saying left node turn)
@@ -186,7 +188,7 @@ runs-spending (suc left) node turn =
 pub record IsCalling (node : Node) (saying : Saying) : Type 0 where
   pub turn : Turn
   pub was : node.turn ≡ Some turn
-  pub called : HasCalled turn.calls saying
+  pub called : HasSaidTurnCall turn.calls saying
 
 said-by : (node : Node) (turn : Option Turn) → node.turn ≡ turn → asks_for_work (saying_in node turn).call ≡ false → IsCalling node (saying_in node turn)
 said-by node None is other = absurd (cc)

@@ -1,4 +1,5 @@
--- Where all boxes of a cube are in step, its blocks are in the boxes, on the parcels that wait and in the host's store, each once.
+-- Where all boxes of a cube are in step, its blocks are in the boxes, on the parcels that wait and
+-- in the host's store, each once.
 use Rattle.std.proofs.Common.{◌≡◌, ◌⊎◌, ℕ, zero, suc, ◌+◌, ◌^◌, ◌<◌, Bool, true, false, ◌||◌, ◌==◌, if◌then◌else◌, List, [], ◌∷◌, ◌++◌, map, flat_map, count_by, IsSomeAnd, refl, ap, ap₂, sym, ◌∙◌, subst, inl, inr, arith}
 use Rattle.std.specs.List.{AllByRecursion, range_with_len}
 use Rattle.std.proofs.lemmas.Bool.{cases_Bool, cases_lt, both_ways, eq-eqb, eqb-true, ne_eqb, lt-ltb, ltb-true, and_parts, and_from, or_cases, or_left, or_right}
@@ -24,12 +25,12 @@ use Rattle.ce_script.specs.Rounds.{asks_for_work}
 use Rattle.ce_solo.proofs.Counting.{count, count-nil, count-append, count-is, count-run, all-at_name, sum_run, sum_run-same, sum_run-add}
 use Rattle.ce_solo.proofs.Items.{parcel_ids, ids-append}
 use Rattle.ce_solo.proofs.Lists.{all-map, all-weaker}
-use Rattle.ce_solo.proofs.Totals.{at_node, at_node-is, total, total-is, holders-total}
+use Rattle.ce_solo.proofs.Totals.{count_at_node, count_at_node-is, total, total-is, holders-total}
 use Rattle.ce_solo.proofs.Room.{held_blocks}
 use Rattle.ce_solo.proofs.Words.{call_ids}
 use Rattle.ce_solo.proofs.Projection.Numbers.{IsPlaced, few_relative, out_no_host, inside_below}
 use Rattle.ce_cube.specs.Boxes.{AreInStep}
-use Rattle.ce_cube.specs.Rehoming.{is_block_of, names_in, AreAllBlocks}
+use Rattle.ce_cube.specs.Rehoming.{is_block_of, names_in_cube, AreAllBlocks}
 use Rattle.ce_cube.specs.Laws.{BlocksAreWhole}
 use Rattle.ce_cube.proofs.Held.{IsSeen, by_seen}
 use Rattle.ce_cube.proofs.Seats.{node-said}
@@ -166,8 +167,8 @@ module _ (parts : MachineParts) (history : List Entry) (cube : HeldCube) (now : 
         count-run id (λ r. blocks_of (rest r)) 0 n,
         items-count id,
         total-is id cube.grant.dim s,
-        sum_run-same (at_node id s) (λ r. count id (blocks_of (rest r)) + count id (parcel_ids (waiting r))) 0 n
-            (λ r low high. omega (arith, at_node-is id s r, rest-count id r (omega (arith, high)))),
+        sum_run-same (count_at_node id s) (λ r. count id (blocks_of (rest r)) + count id (parcel_ids (waiting r))) 0 n
+            (λ r low high. omega (arith, count_at_node-is id s r, rest-count id r (omega (arith, high)))),
         sum_run-add (λ r. count id (blocks_of (rest r))) (λ r. count id (parcel_ids (waiting r))) 0 n,
       )
 
@@ -180,7 +181,7 @@ module _ (parts : MachineParts) (history : List Entry) (cube : HeldCube) (now : 
   out = block_outward cube.grant
 
   abbrev outer : List BlockId
-  outer = names_in cube.grant box (all_parcels (after history) cube) (map out s.hoststore)
+  outer = names_in_cube cube.grant box (all_parcels (after history) cube) (map out s.hoststore)
 
   boxes-outward : flat_map (λ r. blocks_of (box r)) (node_numbers cube.grant.dim) ≡ map out (flat_map (λ r. blocks_of (rest r)) (node_numbers cube.grant.dim))
   boxes-outward =
@@ -246,8 +247,8 @@ pub blocks-are-whole : BlocksAreWhole
 blocks-are-whole parts history number grant machine lawful held box steps =
     by_seen
     (λ number grant. AreInStep parts history number grant box → HasHeldCube history grant.user (λ cube. AreAllBlocks grant
-    (names_in grant box (all_parcels (after history) cube) (map (block_outward grant) (hoststore (opening (cube_of parts.images grant)) (view history number))))))
+    (names_in_cube grant box (all_parcels (after history) cube) (map (block_outward grant) (hoststore (opening (cube_of parts.images grant)) (view history number))))))
     parts history number grant machine lawful
     (λ cube now steps. subst (λ held. IsSomeAnd held (λ one. AreAllBlocks cube.grant
-    (names_in cube.grant box (all_parcels (after history) one) (map (block_outward cube.grant) (hoststore (opening (cube_of parts.images cube.grant)) (view history cube.number))))))
+    (names_in_cube cube.grant box (all_parcels (after history) one) (map (block_outward cube.grant) (hoststore (opening (cube_of parts.images cube.grant)) (view history cube.number))))))
     (sym now.holds) (all-blocks parts history cube now box steps)) held steps

@@ -1,12 +1,12 @@
--- The crew of a cube that is held: the boxes of its nodes and the host of its user, in step with the machine's history.
-use Rattle.std.specs.Prelude.{◌≡◌, ℕ, ◌+◌, ◌^◌, ◌<◌, ◌≤◌, Bool, if◌then◌else◌, IsTrue, is_some, List, [], ◌++◌, length, map, flat_map, slice_index_or, Some}
+-- The crew of a cube that is held: the boxes of its nodes and the host of its user, in step with
+-- the machine's history.
+use Rattle.std.specs.Prelude.{◌≡◌, ℕ, ◌+◌, ◌^◌, ◌<◌, ◌≤◌, Bool, if◌then◌else◌, List, [], ◌++◌, length, map, flat_map, slice_index_or, Some}
 use Rattle.std.specs.List.{AllByRecursion}
 use Rattle.ce_model.specs.declared.entry.Entry.{Entry}
 use Rattle.ce_model.specs.Limits.{greatest_dim, host_home, greatest_blocks}
 use Rattle.ce_model.specs.Blocks.{Block, blocks_of_home}
 use Rattle.ce_model.specs.Node.{blocks_of}
 use Rattle.ce_model.specs.Subcubes.{IsSubcube, node_of}
-use Rattle.ce_model.specs.Answers.{recorded_call}
 use Rattle.ce_model.specs.Cube.{Cube, node_numbers, opening, hoststore}
 use Rattle.ce_model.specs.Renaming.{CubeGrant, block_outward, entry_inward}
 use Rattle.ce_model.specs.Views.{view}
@@ -16,10 +16,11 @@ use Rattle.ce_daemon.specs.declared.grant.Grant.{Grant}
 use Rattle.ce_daemon.specs.Boxes.{AreBoxes}
 use Rattle.ce_daemon.specs.Peeks.{cube_grant}
 use Rattle.ce_host.specs.declared.host.Host.{Host}
-use Rattle.rk_node.specs.Boxes.{Box, IsClean, fresh_at}
-use Rattle.rk_node.specs.declared.out.Out.TheVariants.{Nothing}
+use Rattle.rk_node.specs.Boxes.{Box, IsCleanBox, fresh_node_at}
+use Rattle.rk_node.specs.declared.awaited_call.AwaitedCall.TheVariants.{Nothing}
 use Rattle.ce_machine.specs.Meanings.{MachineFacts}
 use Rattle.ce_script.specs.Rounds.{RoundKind, serial, IsRound, has_work}
+use Rattle.ce_script.specs.Moments.{IsCallOf}
 use Rattle.ce_cube.specs.declared.crew.SerialCrew.{SerialCrew}
 use Rattle.ce_cube.specs.Boxes.{IsHeldAs, AreInStep}
 use Rattle.ce_cube.specs.Rehoming.{AreAllBlocks}
@@ -37,33 +38,44 @@ cube_of_grant parts grant = cube_of parts.images (cube_grant grant)
 
 -- the box of relative node r
 abbrev pub box_at : List Box → ℕ → Box
-box_at boxes r = slice_index_or boxes r (record { node = fresh_at 0 0 0 0; room = 0; out = Nothing })
+box_at boxes r = slice_index_or boxes r
+    (record { node = fresh_node_at 0 0 0 0; room = 0; awaited_call = Nothing })
 
--- no call but a Take is out of a box, and it has room for all blocks of the greatest cube
-pub record IsReady (box : Box) : Type 0 where
-  pub idle : box.out ≡ Nothing
+-- no call but a Take is out of the box
+abbrev pub IsIdleBox : Box → Type 0
+IsIdleBox box = box.awaited_call ≡ Nothing
+
+-- the box is idle, and it has room for all blocks of the greatest cube
+pub record IsReadyBox (box : Box) : Type 0 where
+  pub idle : IsIdleBox box
   pub room : greatest_blocks ≤ box.room
 
 -- these are the boxes of the cube's nodes, all ready, and in step with the nodes
-pub record AreBoxesInStep (parts : MachineParts) (history : List Entry) (grant : Grant) (boxes : List Box) : Type 0 where
+pub record AreBoxesInStep (parts : MachineParts) (history : List Entry) (grant : Grant)
+    (boxes : List Box) : Type 0 where
   pub all : length boxes ≡ 2 ^ grant.dim
-  pub ready : (r : ℕ) → r < 2 ^ grant.dim → IsReady (box_at boxes r)
+  pub ready : (r : ℕ) → r < 2 ^ grant.dim → IsReadyBox (box_at boxes r)
   pub in_step : AreInStep parts history grant.number (cube_grant grant) (λ r. (box_at boxes r).node)
 
--- the host has the blocks that the cube's trace leaves it, room for all of the cube, and its spare batch
-pub record IsHostInStep (parts : MachineParts) (history : List Entry) (grant : Grant) (host : Host) : Type 0 where
-  pub blocks : ids_of host.store.blocks ≡ map (block_outward (cube_grant grant)) (hoststore (opening (cube_of_grant parts grant)) (view history grant.number))
+-- the host has the blocks that the cube's trace leaves it, room for all of the cube, and its spare
+-- batch
+pub record IsHostInStep (parts : MachineParts) (history : List Entry) (grant : Grant)
+    (host : Host) : Type 0 where
+  pub blocks : ids_of host.store.blocks
+      ≡ map (block_outward (cube_grant grant))
+      (hoststore (opening (cube_of_grant parts grant)) (view history grant.number))
   pub room : host.store.spare + length host.store.blocks ≡ greatest_blocks
   pub spare : host.spare ≡ Some []
 
--- a host of a user that holds no cube has its own blocks, room for all of a cube, and its spare batch
+-- a host of a user that holds no cube has its own blocks, room for all of a cube, and its spare
+-- batch
 pub record IsHostAtHome (user : ℕ) (host : Host) : Type 0 where
   pub blocks : ids_of host.store.blocks ≡ blocks_of_home (host_home + user)
   pub room : host.store.spare + length host.store.blocks ≡ greatest_blocks
   pub spare : host.spare ≡ Some []
 
--- a crew as the laws see it: its cube, the boxes of the cube's nodes in relative order, the host of its user, and how many entries the cube's
--- trace has
+-- a crew as the laws see it: its cube, the boxes of the cube's nodes in relative order, the host of
+-- its user, and how many entries the cube's trace has
 pub record CrewFacts : Type 0 where
   pub grant : Grant
   pub boxes : List Box
@@ -72,10 +84,16 @@ pub record CrewFacts : Type 0 where
 
 -- so is a crew on one thread seen
 abbrev pub serial_facts : SerialCrew → CrewFacts
-serial_facts crew = record { grant = crew.grant; boxes = crew.nodes.items; host = crew.host; entries = crew.entries }
+serial_facts crew = record {
+  grant = crew.grant;
+  boxes = crew.nodes.items;
+  host = crew.host;
+  entries = crew.entries;
+}
 
 -- the crew of a cube that is held, and wasn't drained, is in step with the history
-pub record IsCrewInStep (parts : MachineParts) (history : List Entry) (crew : CrewFacts) : Type 0 where
+pub record IsCrewInStep (parts : MachineParts) (history : List Entry)
+    (crew : CrewFacts) : Type 0 where
   pub held : IsHeldAs history crew.grant.number (cube_grant crew.grant)
   pub boxes : AreBoxesInStep parts history crew.grant crew.boxes
   pub host : IsHostInStep parts history crew.grant crew.host
@@ -83,57 +101,70 @@ pub record IsCrewInStep (parts : MachineParts) (history : List Entry) (crew : Cr
 
 -- these entries are calls of this user's cube
 abbrev pub AreCallsOf : ℕ → List Entry → Type 0
-AreCallsOf user new_entries = AllByRecursion (λ entry. (entry.user ≡ user) × IsTrue (is_some (recorded_call entry.what))) new_entries
+AreCallsOf user new_entries = AllByRecursion (IsCallOf user) new_entries
 
--- Calls of a crew's cube went on with the machine's history: these are its user's entries of that stretch, and make the cube's trace longer. On one
--- thread they are the whole stretch. The crew is in step again.
-pub record HasGoneOn (kind : RoundKind) (before after : MachineFacts) (crew crew' : CrewFacts) (new_entries : List Entry) : Type 0 where
+-- Calls of a crew's cube went on with the machine's history: these are its user's entries of that
+-- stretch, and make the cube's trace longer. On one thread they are the whole stretch. The crew is
+-- in step again.
+pub record HasCrewGoneOn (kind : RoundKind) (old_machine new_machine : MachineFacts)
+    (crew crew' : CrewFacts) (new_entries : List Entry) : Type 0 where
   pub all_entries : List Entry
-  pub parts : after.parts ≡ before.parts
-  pub history : after.history ≡ before.history ++ all_entries
+  pub parts : new_machine.parts ≡ old_machine.parts
+  pub history : new_machine.history ≡ old_machine.history ++ all_entries
   pub mix : IsMix kind crew.grant.user all_entries new_entries
-  pub lawful : IsLawful after.parts after.history
+  pub lawful : IsLawful new_machine.parts new_machine.history
   pub calls : AreCallsOf crew.grant.user new_entries
   pub grant : crew'.grant ≡ crew.grant
-  pub trace : view after.history crew.grant.number ≡ view before.history crew.grant.number ++ map (entry_inward crew.grant.sub) new_entries
-  pub in_step : IsCrewInStep after.parts after.history crew'
+  pub trace : view new_machine.history crew.grant.number
+      ≡ view old_machine.history crew.grant.number ++ map (entry_inward crew.grant.sub) new_entries
+  pub in_step : IsCrewInStep new_machine.parts new_machine.history crew'
 
--- Calls of this user's cube went on with the machine's history, until one was refused: that call made no entry, and these before it stand.
-pub record HasStopped (before after : MachineFacts) (user : ℕ) : Type 0 where
+-- Calls of this user's cube went on with the machine's history, until one was refused: that call
+-- made no entry, and these before it stand.
+pub record HasStopped (old_machine new_machine : MachineFacts) (user : ℕ) : Type 0 where
   pub new_entries : List Entry
-  pub parts : after.parts ≡ before.parts
-  pub history : after.history ≡ before.history ++ new_entries
-  pub lawful : IsLawful after.parts after.history
+  pub parts : new_machine.parts ≡ old_machine.parts
+  pub history : new_machine.history ≡ old_machine.history ++ new_entries
+  pub lawful : IsLawful new_machine.parts new_machine.history
   pub calls : AreCallsOf user new_entries
 
--- A round of this kind went on, by which a node was given work or none was. The host is what it was.
-pub record HasMadeRound (kind : RoundKind) (before after : MachineFacts) (crew crew' : CrewFacts) (work : Bool) : Type 0 where
+-- A round of this kind went on, by which a node was given work or none was. The host is what it
+-- was.
+pub record HasMadeRound (kind : RoundKind) (old_machine new_machine : MachineFacts)
+    (crew crew' : CrewFacts) (gives_work : Bool) : Type 0 where
   pub round : List Entry
-  pub goes_on : HasGoneOn kind before after crew crew' round
+  pub goes_on : HasCrewGoneOn kind old_machine new_machine crew crew' round
   pub is_round : IsRound kind crew.grant.dim (map (entry_inward crew.grant.sub) round)
-  pub works : has_work (map (entry_inward crew.grant.sub) round) ≡ work
+  pub works : has_work (map (entry_inward crew.grant.sub) round) ≡ gives_work
   pub host : crew'.host ≡ crew.host
 
 -- A round went on, on one thread. Work takes one at least of the dispatches that are allowed.
-pub record HasMadeSerialRound (before after : MachineFacts) (crew crew' : CrewFacts) (work : Bool) : Type 0 where
-  pub made_round : HasMadeRound serial before after crew crew' work
-  pub left : dispatches_left after.parts after.history crew.grant.number (cube_grant crew.grant) + (if work then 1 else 0)
-      ≤ dispatches_left before.parts before.history crew.grant.number (cube_grant crew.grant)
+pub record HasMadeSerialRound (old_machine new_machine : MachineFacts) (crew crew' : CrewFacts)
+    (gives_work : Bool) : Type 0 where
+  pub made_round : HasMadeRound serial old_machine new_machine crew crew' gives_work
+  pub left : dispatches_left new_machine.parts new_machine.history crew.grant.number
+      (cube_grant crew.grant) + (if gives_work then 1 else 0)
+      ≤ dispatches_left old_machine.parts old_machine.history crew.grant.number
+      (cube_grant crew.grant)
 
 -- ---- a cube that is given back
 
--- The boxes and the host of a cube, a subcube of the greatest machine, with the blocks that were drained, hold each block of the cube once, and no
--- other. The boxes are ready, and the host has room for all blocks of the greatest cube, and its spare batch.
-pub record HasAllBlocks (grant : CubeGrant) (boxes : List Box) (host : Host) (drained : List Block) : Type 0 where
+-- The boxes and the host of a cube, a subcube of the greatest machine, with the blocks that were
+-- drained, hold each block of the cube once, and no other. The boxes are ready, and the host has
+-- room for all blocks of the greatest cube, and its spare batch.
+pub record HasAllBlocks (grant : CubeGrant) (boxes : List Box) (host : Host)
+    (drained_blocks : List Block) : Type 0 where
   pub sub : IsSubcube greatest_dim grant.dim grant.sub
   pub all : length boxes ≡ 2 ^ grant.dim
-  pub ready : (r : ℕ) → r < 2 ^ grant.dim → IsReady (box_at boxes r)
+  pub ready : (r : ℕ) → r < 2 ^ grant.dim → IsReadyBox (box_at boxes r)
   pub homes : (r : ℕ) → r < 2 ^ grant.dim → (box_at boxes r).node.home ≡ node_of grant.sub r
-  pub blocks : AreAllBlocks grant (flat_map (λ r. blocks_of (box_at boxes r).node) (node_numbers grant.dim)
-      ++ (map (λ block. block.id) drained ++ ids_of host.store.blocks))
+  pub blocks : AreAllBlocks grant
+      (flat_map (λ r. blocks_of (box_at boxes r).node) (node_numbers grant.dim)
+      ++ (map (λ block. block.id) drained_blocks ++ ids_of host.store.blocks))
   pub room : host.store.spare + length host.store.blocks ≡ greatest_blocks
   pub spare : host.spare ≡ Some []
 
 -- all blocks of the cube are at home: the boxes are clean, and have their homes
 abbrev pub AreAllHome : CubeGrant → List Box → Host → Type 0
-AreAllHome grant boxes host = AreBoxes (λ box. box.node.home) IsClean (2 ^ grant.dim) (node_of grant.sub) boxes × IsHostAtHome grant.user host
+AreAllHome grant boxes host = AreBoxes (λ box. box.node.home) IsCleanBox (2 ^ grant.dim)
+    (node_of grant.sub) boxes × IsHostAtHome grant.user host

@@ -21,11 +21,15 @@ pub record IsStartable (images : List ImageParts) (node : Node) (pid image : ℕ
   pub unborn : IsTrue (is_unborn (process_at node pid).status)
   pub between_turns : node.turn ≡ None
 
--- a parcel can come to a process that asks for a message or has stopped; its block is new to the node, which has room for it
+-- a parcel can come to a process that asks for a message or has stopped; its block is new to the
+-- node, which has room for it
 pub record IsDeliverable (node : Node) (parcel : Parcel) : Type 0 where
   pub pid_within : parcel.to.pid < process_count
-  pub receiver : IsTrue (is_receiving (process_at node parcel.to.pid).status) ⊎ IsTrue (is_stopped (process_at node parcel.to.pid).status)
-  pub eligible : IsTrue (is_eligible (process_set is_receiving node.processes) (process_set is_stopped node.processes) (mail parcel))
+  pub receiver : IsTrue (is_receiving (process_at node parcel.to.pid).status)
+      ⊎ IsTrue (is_stopped (process_at node parcel.to.pid).status)
+  pub eligible : IsTrue
+      (is_eligible (process_set is_receiving node.processes)
+      (process_set is_stopped node.processes) (mail parcel))
   pub new : count_by (is_same_id parcel.block.id) (blocks_of node) ≡ 0
   pub room : length (blocks_of node) < greatest_blocks
   pub between_turns : node.turn ≡ None
@@ -58,9 +62,10 @@ IsHearable images node (answer_of value) = HasAnswerableTurn node
 IsHearable images node nothing = Unit {0}
 
 -- what is heard is an answer to what was said, and the node can hear it
-pub record IsRightAnswer (images : List ImageParts) (said : Saying) (heard : program.Hearing) : Type 0 where
-  pub answers : IsAnswerTo said.call heard
-  pub hearable : IsHearable images said.node (hearing_model heard)
+pub record IsRightAnswer (images : List ImageParts) (saying : Saying)
+    (hearing : program.Hearing) : Type 0 where
+  pub answers : IsAnswerTo saying.call hearing
+  pub hearable : IsHearable images saying.node (hearing_model hearing)
 
 -- ---- how long a turn can be
 

@@ -5,27 +5,24 @@ use Rattle.ce_model.specs.Limits.{home_blocks}
 use Rattle.ce_model.specs.Blocks.{blocks_of_home}
 use Rattle.ce_model.specs.Node.{blocks_of}
 use Rattle.ce_model.specs.Kernel.{with_store}
-use Rattle.rk_node.specs.declared.out.Out.TheVariants.{Nothing}
-use Rattle.rk_node.specs.Boxes.{Box, fresh_at, scrubbed_node}
+use Rattle.rk_node.specs.Boxes.{Box, fresh_node_at, scrubbed_node}
 
--- the box once it became the node of this relative number, in a cube of this dimension, for so many images
+-- the box once it became the node of this relative number, in a cube of this dimension, for so many
+-- images
 abbrev pub entered_box : ℕ → ℕ → ℕ → Box → Box
-entered_box dim images r box = record box { node = fresh_at box.node.home r dim images }
-
--- no call but a Take is out of the box
-abbrev pub IsIdle : Box → Type 0
-IsIdle box = box.out ≡ Nothing
+entered_box dim images r box = record box { node = fresh_node_at box.node.home r dim images }
 
 -- the names of all blocks in boxes
 abbrev pub names_in_boxes : List Box → List BlockId
 names_in_boxes boxes = flat_map (λ box. blocks_of box.node) boxes
 
--- the box once its blocks were taken away: none of its processes is born, nobody polls, and no turn runs
+-- the box once its blocks were taken away: none of its processes is born, nobody polls, and no turn
+-- runs
 abbrev pub emptied_box : Box → Box
 emptied_box box = record box { node = scrubbed_node box.node }
 
 -- no block is in the box, and it has room for those of its home
-pub record IsEmptied (box : Box) : Type 0 where
+pub record IsEmptiedBox (box : Box) : Type 0 where
   pub none : blocks_of box.node ≡ []
   pub room : home_blocks ≤ box.room
 

@@ -3,7 +3,8 @@ use ce_daemon::Grant;
 use ce_host::Host;
 use rk_node::NodeBox;
 
-/// The crew of a cube on one thread: the boxes of its nodes, by relative number, and the host of its user.
+/// The crew of a cube on one thread: the boxes of its nodes, by relative number, and the host of
+/// its user.
 #[derive(Drop)]
 pub struct SerialCrew {
     /// The cube.

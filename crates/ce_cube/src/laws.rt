@@ -1,20 +1,24 @@
-//! What is proved of the boxes of a cube that is held after a lawful history of a machine within its limits. The functions do
-//! nothing: a contract is the law. The proofs of the code cite the lemmas that prove it.
+//! What is proved of the boxes of a cube that is held after a lawful history of a machine within
+//! its limits. The functions do nothing: a contract is the law. The proofs of the code cite the
+//! lemmas that prove it.
 ghost use Rattle.ce_cube.specs.Laws.{BoxesSay, CallsAdd, BoxesHear, BoxesCanHear, TurnsEnd, OthersKeep, BesideKeeps, EntriesCount, IdleAsks, BoxesInStepEndTurns, RoundsRest, LooksEnd, BlocksAreWhole, GrantsBegin, HostsFit, HostsSend, HostsTake, ArmsAllow, DrainsFit};
 ghost use Rattle.ce_cube.specs.Rehoming.{BlocksSort, StoresAreHome};
 ghost use Rattle.ce_cube.specs.Rounds.{AreMade};
 
-/// What a box says that stands for a node of the cube is the node's next call, and the machine takes it.
+/// What a box says that stands for a node of the cube is the node's next call, and the machine
+/// takes it.
 pub fn boxes_say_law()
     ensures law { BoxesSay }
 {}
 
-/// A call of the cube that fits makes the next entry of the cube's trace, and leaves all nodes but its own as they were.
+/// A call of the cube that fits makes the next entry of the cube's trace, and leaves all nodes but
+/// its own as they were.
 pub fn calls_add_law()
     ensures law { CallsAdd }
 {}
 
-/// The box of a node that has made an entry stands for the node behind it, once it has heard the answer.
+/// The box of a node that has made an entry stands for the node behind it, once it has heard the
+/// answer.
 pub fn boxes_hear_law()
     ensures law { BoxesHear }
 {}
@@ -34,13 +38,14 @@ pub fn others_keep_law()
     ensures law { OthersKeep }
 {}
 
-/// Behind entries of other users, calls of a cube and peeks of its host the cube is held still, and what made none of
-/// them is what it was.
+/// Behind entries of other users, calls of a cube and peeks of its host the cube is held still, and
+/// what made none of them is what it was.
 pub fn beside_keeps_law()
     ensures law { BesideKeeps }
 {}
 
-/// An entry of a node is a Take exactly where its call asked for work, and takes a dispatch exactly where it gives work.
+/// An entry of a node is a Take exactly where its call asked for work, and takes a dispatch exactly
+/// where it gives work.
 pub fn entries_count_law()
     ensures law { EntriesCount }
 {}
@@ -70,7 +75,8 @@ pub fn looks_end_law()
     ensures law { LooksEnd }
 {}
 
-/// Where all boxes of a cube are in step, its blocks are in them, on the parcels that wait and in the host's store, each once.
+/// Where all boxes of a cube are in step, its blocks are in them, on the parcels that wait and in
+/// the host's store, each once.
 pub fn blocks_are_whole_law()
     ensures law { BlocksAreWhole }
 {}
@@ -90,7 +96,8 @@ pub fn grants_begin_law()
     ensures law { GrantsBegin }
 {}
 
-/// What a user has its host do fits, where it names a place and an image of the cube and has a block to send.
+/// What a user has its host do fits, where it names a place and an image of the cube and has a
+/// block to send.
 pub fn hosts_fit_law()
     ensures law { HostsFit }
 {}

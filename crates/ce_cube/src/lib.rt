@@ -1,6 +1,6 @@
-//! The nodes of a cube in their boxes: what they say fits the machine that all users share, and what they hear makes of each
-//! box the next node of the cube's own model. The laws are definitions in `specs/`; each is the contract of a function of the
-//! module `laws`.
+//! The nodes of a cube in their boxes: what they say fits the machine that all users share, and
+//! what they hear makes of each box the next node of the cube's own model. The laws are definitions
+//! in `specs/`; each is the contract of a function of the module `laws`.
 #![tactic(auto)]
 
 mod crew;

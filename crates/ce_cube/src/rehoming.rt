@@ -6,15 +6,15 @@ ghost use Rattle.ce_model.specs.Machine.{MachineParts, IsMachine};
 ghost use Rattle.ce_model.specs.Blocks.{blocks_of_home, with_ids};
 ghost use Rattle.ce_model.specs.Renaming.{CubeGrant};
 ghost use Rattle.ce_model.specs.Views.{view};
-ghost use Rattle.xm_block.specs.Rising.{IsRising};
-ghost use Rattle.xm_block.specs.Stores.{ids_of, is_before};
-ghost use Rattle.ce_daemon.specs.Boxes.{AreBoxesOf};
-ghost use Rattle.rk_node.specs.Boxes.{Box, IsClean};
-ghost use Rattle.rk_node.specs.Hearings.{AreApartFrom};
+ghost use Rattle.ce_model.specs.Rising.{IsRising};
+ghost use Rattle.xm_block.specs.Stores.{ids_of, is_block_before};
+ghost use Rattle.ce_daemon.specs.Boxes.{AreGrantBoxes};
+ghost use Rattle.rk_node.specs.Boxes.{Box, IsCleanBox};
+ghost use Rattle.rk_node.specs.Hearings.{AreNewToStore};
 ghost use Rattle.ce_cube.specs.Boxes.{IsHeldAs};
-ghost use Rattle.ce_cube.specs.Crews.{AreAllHome, HasAllBlocks, IsCrewInStep, IsHostAtHome, serial_facts};
+ghost use Rattle.ce_cube.specs.Crews.{AreAllHome, HasAllBlocks, IsCrewInStep, IsHostAtHome, IsIdleBox, serial_facts};
 ghost use Rattle.ce_daemon.specs.Peeks.{cube_grant};
-ghost use Rattle.ce_cube.specs.Homecoming.{HasPrefix, IsEmptied, IsIdle, emptied_box, entered_box, names_at_home, names_in_boxes, refilled_box};
+ghost use Rattle.ce_cube.specs.Homecoming.{HasPrefix, IsEmptiedBox, emptied_box, entered_box, names_at_home, names_in_boxes, refilled_box};
 
 use crate::SerialCrew;
 use ce_daemon::Grant;
@@ -24,10 +24,11 @@ use rk_node::NodeBox;
 use xm_block::{Block, Store};
 
 impl SerialCrew {
-    /// The crew of a cube that was just granted: its clean boxes become its nodes, for so many images, `GREATEST_IMAGES` at
-    /// most. The cube's dimension is `GREATEST_DIMENSION` at most, and the host of its user has its own blocks alone.
+    /// The crew of a cube that was just granted: its clean boxes become its nodes, for so many
+    /// images, `GREATEST_IMAGES` at most. The cube's dimension is `GREATEST_DIMENSION` at most, and
+    /// the host of its user has its own blocks alone.
     pub fn new(grant: Grant, mut nodes: Vec<NodeBox>, host: Host, images: u32) -> SerialCrew
-        requires boxes { AreBoxesOf (λ box. box.node.home) IsClean grant nodes.items }
+        requires boxes { AreGrantBoxes (λ box. box.node.home) IsCleanBox grant nodes.items }
         requires host { IsHostAtHome grant.user host }
         requires dim { grant.dim ≤ greatest_dim }
         requires images { images ≤ greatest_images }
@@ -49,7 +50,7 @@ impl SerialCrew {
 
 /// Makes each clean box the node of its place in a cube of this dimension, for so many images.
 fn enter_all(nodes: &mut [NodeBox], dim: u32, images: u32)
-    requires clean { All IsClean nodes.old }
+    requires clean { All IsCleanBox nodes.old }
     requires all { length nodes.old ≡ 2 ^ dim }
     requires dim { dim ≤ greatest_dim }
     requires images { images ≤ greatest_images }
@@ -62,25 +63,27 @@ fn enter_all(nodes: &mut [NodeBox], dim: u32, images: u32)
     }
 }
 
-/// Moves every block of a cube that is given back to its home: those in the boxes, those in the host's store, and those
-/// that were drained. Together these are the cube's blocks, each once. No call but a Take is out of a box. Each box and the
-/// host's store have room for all blocks of the greatest cube, and the host has its spare batch, empty. The boxes are clean
-/// then, and the host has its own blocks, with its room and its batch as before. Nothing can fail.
-pub fn rehome(nodes: &mut [NodeBox], host: &mut Host, drained: Vec<Block>)
-    requires all { (grant : CubeGrant) × HasAllBlocks grant nodes.old host.old drained.items }
-    ensures home { (grant : CubeGrant) → HasAllBlocks grant nodes.old host.old drained.items
+/// Moves every block of a cube that is given back to its home: those in the boxes, those in the
+/// host's store, and those that were drained. Together these are the cube's blocks, each once. No
+/// call but a Take is out of a box. Each box and the host's store have room for all blocks of the
+/// greatest cube, and the host has its spare batch, empty. The boxes are clean then, and the host
+/// has its own blocks, with its room and its batch as before. Nothing can fail.
+pub fn rehome(nodes: &mut [NodeBox], host: &mut Host, drained_blocks: Vec<Block>)
+    requires all { (grant : CubeGrant)
+        × HasAllBlocks grant nodes.old host.old drained_blocks.items }
+    ensures home { (grant : CubeGrant) → HasAllBlocks grant nodes.old host.old drained_blocks.items
         → AreAllHome grant nodes.new host.new }
 {
     scrub_all(nodes, &mut host.store);
-    give_all(drained, &mut host.store);
+    give_all(drained_blocks, &mut host.store);
     send_all_home(nodes, &mut host.store);
 }
 
 /// Moves every block of the boxes to the store, which has room for them; all these names differ.
 fn scrub_all(nodes: &mut [NodeBox], store: &mut Store)
-    requires idle { All IsIdle nodes.old }
+    requires idle { All IsIdleBox nodes.old }
     requires room { length (names_in_boxes nodes.old) ≤ store.old.spare }
-    requires apart { AreApartFrom (names_in_boxes nodes.old) store.old }
+    requires apart { AreNewToStore (names_in_boxes nodes.old) store.old }
     ensures boxes { nodes.new ≡ map emptied_box nodes.old }
     ensures moved { ids_of store.new.blocks
         ≡ with_ids (names_in_boxes nodes.old) (ids_of store.old.blocks) }
@@ -91,14 +94,15 @@ fn scrub_all(nodes: &mut [NodeBox], store: &mut Store)
     }
 }
 
-/// Gives these blocks to the store, which has room for them; all these names differ. The store is in order then.
+/// Gives these blocks to the store, which has room for them; all these names differ. The store is
+/// in order then.
 fn give_all(blocks: Vec<Block>, store: &mut Store)
     requires room { length blocks.items ≤ store.old.spare }
-    requires apart { AreApartFrom (ids_of blocks.items) store.old }
+    requires apart { AreNewToStore (ids_of blocks.items) store.old }
     ensures moved { ids_of store.new.blocks
         ≡ with_ids (ids_of blocks.items) (ids_of store.old.blocks) }
     ensures spare { store.new.spare + length blocks.items ≡ store.old.spare }
-    ensures rising { IsRising is_before store.new.blocks }
+    ensures rising { IsRising is_block_before store.new.blocks }
 {
     for block in blocks {
         store.give(block);
@@ -109,7 +113,7 @@ fn give_all(blocks: Vec<Block>, store: &mut Store)
 
 /// Gives each of these empty boxes the blocks of its home, which are the store's least, box by box.
 fn send_all_home(nodes: &mut [NodeBox], store: &mut Store)
-    requires emptied { All IsEmptied nodes.old }
+    requires emptied { All IsEmptiedBox nodes.old }
     requires least { HasPrefix (names_at_home nodes.old) (ids_of store.old.blocks) }
     ensures boxes { nodes.new ≡ map refilled_box nodes.old }
     ensures rest { ids_of store.new.blocks
@@ -123,7 +127,7 @@ fn send_all_home(nodes: &mut [NodeBox], store: &mut Store)
 
 /// Gives an empty box the blocks of its home, which are the store's least.
 fn send_home(node: &mut NodeBox, store: &mut Store)
-    requires emptied { IsEmptied node.old }
+    requires emptied { IsEmptiedBox node.old }
     requires least { HasPrefix (blocks_of_home node.old.node.home) (ids_of store.old.blocks) }
     ensures after { node.new ≡ refilled_box node.old }
     ensures rest { ids_of store.new.blocks ≡ drop home_blocks (ids_of store.old.blocks) }

@@ -11,9 +11,10 @@ use rk_node::NodeBox;
 use rv_image::Image;
 use std::alloc::Global;
 
-/// One round: each node of the cube, in relative order, asks for work once and runs that turn to its end. Whether one of
-/// them was given work. The crew is in step with the machine, and the list has the machine's images. `NoMemory` may come
-/// at any time; the entries that were made before it stand, and the crew isn't used again.
+/// One round: each node of the cube, in relative order, asks for work once and runs that turn to
+/// its end. Whether one of them was given work. The crew is in step with the machine, and the list
+/// has the machine's images. `NoMemory` may come at any time; the entries that were made before it
+/// stand, and the crew isn't used again.
 pub fn round_serial(
     alloc: Global,
     machine: &mut Machine<NodeBox>,

@@ -1,14 +1,14 @@
 //! One turn of a node.
 ghost use Rattle.std.specs.Prelude.{◌≡◌, IfErr, IfOk, IfSome, IfNone, IsTrue, IsFalse};
 ghost use Rattle.ce_model.specs.Saying.{says};
-ghost use Rattle.rk_mail.specs.Talk.{call_said};
+ghost use Rattle.rk_mail.specs.Talk.{call_of_say};
 ghost use Rattle.rk_node.specs.Answering.{IsAwaitingAnswer};
-ghost use Rattle.rk_node.specs.declared.out.Out.TheVariants.{Nothing};
+ghost use Rattle.rk_node.specs.declared.awaited_call.AwaitedCall.TheVariants.{Nothing};
 ghost use Rattle.ce_script.specs.Rounds.{asks_for_work};
 ghost use Rattle.ce_cube.specs.Boxes.{IsInStep};
-ghost use Rattle.ce_cube.specs.Crews.{HasStopped, IsReady};
+ghost use Rattle.ce_cube.specs.Crews.{HasStopped, IsReadyBox};
 ghost use Rattle.ce_daemon.specs.Peeks.{cube_grant};
-ghost use Rattle.ce_cube.specs.Exchanges.{HasNode, IsTurning, machine_node};
+ghost use Rattle.ce_cube.specs.Exchanges.{HasNode, IsTurnUnderWay, machine_node};
 
 use crate::exchange::exchange;
 use ce_daemon::Grant;
@@ -28,7 +28,8 @@ pub(crate) struct TurnResult {
     pub entries: u64,
 }
 
-/// A turn of node r of the cube, whose box is in step: it asks for work once, and runs on until it would ask again.
+/// A turn of node r of the cube, whose box is in step: it asks for work once, and runs on until it
+/// would ask again.
 pub(crate) fn take_turn(
     alloc: Global,
     machine: &mut Machine<NodeBox>,
@@ -38,11 +39,11 @@ pub(crate) fn take_turn(
     images: &[Image],
 ) -> Result<TurnResult, NoMemory>
     requires node { HasNode machine.old grant.now r }
-    requires ready { IsReady node.old }
+    requires ready { IsReadyBox node.old }
     requires in_step { IsInStep (cube_grant grant.now)
         (machine_node machine.old grant.now r) node.old.node }
     requires images { images.now ≡ machine.old.parts.images }
-    ensures turn { IfOk result (λ turn. IsTurning machine.old machine.new grant.now r node.new
+    ensures turn { IfOk result (λ turn. IsTurnUnderWay machine.old machine.new grant.now r node.new
         turn.has_work turn.entries) }
     ensures in_step { IfOk result (λ _. IsInStep (cube_grant grant.now)
         (machine_node machine.new grant.now r) node.new.node) }
@@ -51,8 +52,8 @@ pub(crate) fn take_turn(
     let take = node.says();
     let work = exchange(alloc, machine, grant, r, node, images, take)?;
     let mut entries = 1;
-    while let Some(said) = next_call(node) {
-        exchange(alloc, machine, grant, r, node, images, said)?;
+    while let Some(say) = next_call(node) {
+        exchange(alloc, machine, grant, r, node, images, say)?;
         entries += 1;
     }
     Ok(TurnResult {
@@ -63,17 +64,17 @@ pub(crate) fn take_turn(
 
 /// What the box says next, unless it asks for work: its turn is over then.
 fn next_call(node: &mut NodeBox) -> Option<Say>
-    requires idle { node.old.out ≡ Nothing }
+    requires idle { node.old.awaited_call ≡ Nothing }
     ensures node { node.new.node ≡ (says node.old.node).node }
     ensures room { node.new.room ≡ node.old.room }
-    ensures call { IfSome result (λ said. call_said said ≡ (says node.old.node).call) }
-    ensures goes_on { IfSome result (λ said. IsFalse (asks_for_work (call_said said))) }
-    ensures said { IfSome result (λ said. IsAwaitingAnswer node.new (call_said said)) }
+    ensures call { IfSome result (λ say. call_of_say say ≡ (says node.old.node).call) }
+    ensures goes_on { IfSome result (λ say. IsFalse (asks_for_work (call_of_say say))) }
+    ensures said { IfSome result (λ say. IsAwaitingAnswer node.new (call_of_say say)) }
     ensures over { IfNone result (IsTrue (asks_for_work (says node.old.node).call)) }
-    ensures idle { IfNone result (node.new.out ≡ Nothing) }
+    ensures idle { IfNone result (node.new.awaited_call ≡ Nothing) }
 {
     match node.says() {
         Say::Take { .. } => None,
-        said => Some(said),
+        say => Some(say),
     }
 }

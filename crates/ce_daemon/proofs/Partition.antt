@@ -7,11 +7,11 @@ use Rattle.std.proofs.lemmas.Bool.Decides.{nat_tests}
 use Rattle.std.proofs.lemmas.Nat.{shr-shr, ones_le_self}
 use Rattle.ce_model.specs.declared.topology.NodeSet.{NodeSet}
 use Rattle.ce_model.specs.Limits.{greatest_dim}
-use Rattle.ce_model.specs.Subcubes.{has_node, is_inside, are_all_nodes, ones_of, first_free}
+use Rattle.ce_model.specs.Subcubes.{has_node, is_inside, are_all_nodes, ones_of, first_free_subcube}
 use Rattle.ce_model.proofs.Subcubes.{all_nodes-inside, first_free-same}
 use Rattle.ce_set.proofs.Masks.{count_ones-half}
 use Rattle.ce_daemon.specs.declared.grant.Grant.{Grant}
-use Rattle.ce_daemon.specs.Holding.{is_user, is_granted, IsPartition}
+use Rattle.ce_daemon.specs.Holding.{is_grant_of, is_granted, IsPartition}
 use Rattle.ce_daemon.proofs.Counting.{count_by-more, count_by-cons, list_any-none, list_any-some, filter-found, count_by-parts, one_if, find-count}
 
 -- the free nodes are those of no grant
@@ -27,7 +27,7 @@ is_ungranted-partition dim held free node parted below =
 
 -- so what is first among the nodes of the free set is first among those of no grant
 pub first_free-partition : (dim d : ℕ) (held : List Grant) (free : NodeSet) → IsPartition dim held free
-    → first_free (has_node free) dim d ≡ first_free (λ node. not (list_any (is_granted node) held)) dim d
+    → first_free_subcube (has_node free) dim d ≡ first_free_subcube (λ node. not (list_any (is_granted node) held)) dim d
 first_free-partition dim d held free parted =
     first_free-same (has_node free) (λ node. not (list_any (is_granted node) held)) dim d (λ node below. is_ungranted-partition dim held free node parted below)
 
@@ -79,13 +79,13 @@ IsPartition-granted dim held free after grant parted all ones is node below =
 
 -- the one grant of a user goes, and its nodes are free
 pub IsPartition-freed : (dim user : ℕ) (held : List Grant) (free after : NodeSet) (grant : Grant) → IsPartition dim held free
-    → count_by (is_user user) held ≤ 1 → find (is_user user) held ≡ Some grant
-    → ((node : ℕ) → has_node after node ≡ (has_node free node || is_inside grant.sub node)) → IsPartition dim (filter (λ other. not (is_user user other)) held) after
+    → count_by (is_grant_of user) held ≤ 1 → find (is_grant_of user) held ≡ Some grant
+    → ((node : ℕ) → has_node after node ≡ (has_node free node || is_inside grant.sub node)) → IsPartition dim (filter (λ other. not (is_grant_of user other)) held) after
 IsPartition-freed dim user held free after grant parted single found is node below =
     let one = parted node below in
-    let alone = filter-found (is_user user) held grant found single in
-    let parts = count_by-parts (is_granted node) (is_user user) held in
-    let gone : count_by (is_granted node) (filter (is_user user) held) ≡ one_if (is_inside grant.sub node) =
+    let alone = filter-found (is_grant_of user) held grant found single in
+    let parts = count_by-parts (is_granted node) (is_grant_of user) held in
+    let gone : count_by (is_granted node) (filter (is_grant_of user) held) ≡ one_if (is_inside grant.sub node) =
     ap (count_by (is_granted node)) alone ∙ zero-add (one_if (is_inside grant.sub node)) in
     elim (cases_Bool (is_inside grant.sub node)) [
       | inl inside ↦
@@ -106,17 +106,17 @@ IsPartition-freed dim user held free after grant parted single found is node bel
     or_false false = refl
 
 -- a user holds one grant at most
-pub single-granted : (held : List Grant) (grant : Grant) (user : ℕ) → count_by (is_user user) held ≤ 1 → find (is_user grant.user) held ≡ None
-    → count_by (is_user user) (held ++ grant ∷ []) ≤ 1
+pub single-granted : (held : List Grant) (grant : Grant) (user : ℕ) → count_by (is_grant_of user) held ≤ 1 → find (is_grant_of grant.user) held ≡ None
+    → count_by (is_grant_of user) (held ++ grant ∷ []) ≤ 1
 single-granted held grant user single none =
-    let count = count_by-more (is_user user) held grant in
-    elim (cases_Bool (is_user user grant)) [
+    let count = count_by-more (is_grant_of user) held grant in
+    elim (cases_Bool (is_grant_of user grant)) [
       | inl same ↦
           let is : grant.user ≡ user = eqb-true grant.user user same in
-          let zero_of : count_by (is_user user) held ≡ 0 = find-count (is_user user) held (rw is at none) in
+          let zero_of : count_by (is_grant_of user) held ≡ 0 = find-count (is_grant_of user) held (rw is at none) in
           omega (arith, count, zero_of, ap one_if same)
       | inr other ↦ omega (arith, single, count, ap one_if other)
     ]
 
-pub single-freed : (held : List Grant) (user other : ℕ) → count_by (is_user other) held ≤ 1 → count_by (is_user other) (filter (λ grant. not (is_user user grant)) held) ≤ 1
-single-freed held user other single = omega (arith, single, count_by-parts (is_user other) (is_user user) held)
+pub single-freed : (held : List Grant) (user other : ℕ) → count_by (is_grant_of other) held ≤ 1 → count_by (is_grant_of other) (filter (λ grant. not (is_grant_of user grant)) held) ≤ 1
+single-freed held user other single = omega (arith, single, count_by-parts (is_grant_of other) (is_grant_of user) held)

@@ -9,13 +9,13 @@ use Rattle.std.proofs.lemmas.Nat.Bits.{bit_at_ones}
 use Rattle.ce_model.specs.declared.topology.NodeSet.{NodeSet}
 use Rattle.ce_model.specs.declared.topology.Subcube.{Subcube}
 use Rattle.ce_model.specs.Limits.{greatest_dim}
-use Rattle.ce_model.specs.Subcubes.{has_node, is_inside, extract, first_free, ones_of, IsSubcube}
+use Rattle.ce_model.specs.Subcubes.{has_node, is_inside, extract, first_free_subcube, ones_of, IsSubcube}
 use Rattle.ce_model.proofs.Subcubes.{first_free-subcube, first_free-all_free, find-among, is_inside-within, extract-below, node_of-extract}
 use Rattle.ce_set.proofs.Steps.{pow_le}
 use Rattle.ce_set.proofs.WordBits.{below-has_bit}
 use Rattle.ce_daemon.specs.declared.grant.Grant.{Grant}
-use Rattle.ce_daemon.specs.Boxes.{AreBoxes, AreBoxesOf, HasBox, IsBoxOf}
-use Rattle.ce_daemon.specs.Holding.{is_user}
+use Rattle.ce_daemon.specs.Boxes.{AreBoxes, AreGrantBoxes, HasBox, IsNodeBox}
+use Rattle.ce_daemon.specs.Holding.{is_grant_of}
 use Rattle.ce_daemon.specs.Sound.{IsSoundDaemon}
 use Rattle.ce_daemon.proofs.Counting.{one_if}
 use Rattle.ce_daemon.proofs.Partition.{IsPartition-granted, IsPartition-freed, single-granted, single-freed}
@@ -52,12 +52,12 @@ IsSound-new {N} home clean dim free boxes small are all =
       all = length-map boxes Some ∙ are.all;
       filled = λ node here.
           let below : node < length boxes = omega (arith, are.all, below-has_bit free.0 (2 ^ dim) node within here) in
-          boxes-placed (λ n one. IsBoxOf home clean n one) boxes node below (λ r other h. are.each r other (omega (arith, are.all)));
+          boxes-placed (λ n one. IsNodeBox home clean n one) boxes node below (λ r other h. are.each r other (omega (arith, are.all)));
     }
 
 -- a grant of the first free subcube
 pub IsSound-granted : {N : Type 0} (home : N → ℕ) (clean : N → Type 0) (dim : ℕ) (free after : NodeSet) (held : List Grant) (places left : List (Option N)) (grant : Grant)
-    → IsSoundDaemon home clean dim free held places → first_free (has_node free) dim grant.dim ≡ Some grant.sub → find (is_user grant.user) held ≡ None
+    → IsSoundDaemon home clean dim free held places → first_free_subcube (has_node free) dim grant.dim ≡ Some grant.sub → find (is_grant_of grant.user) held ≡ None
     → after.0 ≤ free.0 → ((node : ℕ) → has_node after node ≡ (has_node free node && not (is_inside grant.sub node)))
     → ((node : ℕ) → is_inside grant.sub node ≡ false → HasBox home clean places node → HasBox home clean left node) → length left ≡ length places
     → IsSoundDaemon home clean dim after (held ++ grant ∷ []) left
@@ -77,7 +77,7 @@ IsSound-granted home clean dim free after held places left grant sound found non
     }
 
 -- the box of a node of the grant is at its place again
-back_home : {N : Type 0} (home : N → ℕ) (clean : N → Type 0) (filled : List (Option N)) (boxes : List N) (grant : Grant) (node : ℕ) → AreBoxesOf home clean grant boxes
+back_home : {N : Type 0} (home : N → ℕ) (clean : N → Type 0) (filled : List (Option N)) (boxes : List N) (grant : Grant) (node : ℕ) → AreGrantBoxes home clean grant boxes
     → All (λ next. HasBox home clean filled (home next)) boxes → ones_of greatest_dim grant.sub.mask ≡ grant.dim → is_inside grant.sub node ≡ true → HasBox home clean filled node
 back_home home clean filled [] grant node are put ones inside = absurd (omega (arith, are.all, pow_pos grant.dim))
 back_home {N} home clean filled (first ∷ boxes) grant node are put ones inside =
@@ -91,19 +91,19 @@ back_home {N} home clean filled (first ∷ boxes) grant node are put ones inside
 
 -- a user's grant comes back
 pub IsSound-freed : {N : Type 0} (home : N → ℕ) (clean : N → Type 0) (dim user : ℕ) (free after : NodeSet) (held : List Grant) (places filled : List (Option N)) (boxes : List N) (grant : Grant)
-    → IsSoundDaemon home clean dim free held places → find (is_user user) held ≡ Some grant
+    → IsSoundDaemon home clean dim free held places → find (is_grant_of user) held ≡ Some grant
     → ((count : ℕ) → free.0 < 2 ^ count → ((node : ℕ) → is_inside grant.sub node ≡ true → node < count) → after.0 < 2 ^ count)
     → ((node : ℕ) → has_node after node ≡ (has_node free node || is_inside grant.sub node))
-    → AreBoxesOf home clean grant boxes → All (λ next. HasBox home clean filled (home next)) boxes
+    → AreGrantBoxes home clean grant boxes → All (λ next. HasBox home clean filled (home next)) boxes
     → ((node : ℕ) → HasBox home clean places node → HasBox home clean filled node) → length filled ≡ length places
-    → IsSoundDaemon home clean dim after (filter (λ other. not (is_user user other)) held) filled
+    → IsSoundDaemon home clean dim after (filter (λ other. not (is_grant_of user other)) held) filled
 IsSound-freed {N} home clean dim user free after held places filled boxes grant sound found within is are put others all =
-    let known = find-among (λ (g : Grant). IsSubcube dim g.dim g.sub) (is_user user) held grant sound.subcubes found in
+    let known = find-among (λ (g : Grant). IsSubcube dim g.dim g.sub) (is_grant_of user) held grant sound.subcubes found in
     record {
       small = sound.small;
       within = within (2 ^ dim) sound.within (λ node inside. is_inside-within dim node grant.sub known.base_within known.mask_within known.apart inside);
       partition = IsPartition-freed dim user held free after grant sound.partition (sound.single user) found is;
-      subcubes = All-filter (λ other. not (is_user user other)) (λ (g : Grant). IsSubcube dim g.dim g.sub) held sound.subcubes;
+      subcubes = All-filter (λ other. not (is_grant_of user other)) (λ (g : Grant). IsSubcube dim g.dim g.sub) held sound.subcubes;
       single = λ other. single-freed held user other (sound.single other);
       all = all ∙ sound.all;
       filled = λ node here.

@@ -13,12 +13,12 @@ pub record GrantTable : Type 0 where
   pub grants : List Grant
 
 -- the user holds this grant
-abbrev pub is_user : ℕ → Grant → Bool
-is_user user grant = grant.user == user
+abbrev pub is_grant_of : ℕ → Grant → Bool
+is_grant_of user grant = grant.user == user
 
 -- the grant that a user holds
 abbrev pub grant_held_by : GrantTable → ℕ → Option Grant
-grant_held_by holding user = find (is_user user) holding.grants
+grant_held_by table user = find (is_grant_of user) table.grants
 
 -- the node is one of the grant's
 abbrev pub is_granted : ℕ → Grant → Bool
@@ -26,7 +26,7 @@ is_granted node grant = is_inside grant.sub node
 
 -- a node is free where it is in no grant that is held
 abbrev pub is_ungranted : GrantTable → ℕ → Bool
-is_ungranted holding node = not (list_any (is_granted node) holding.grants)
+is_ungranted table node = not (list_any (is_granted node) table.grants)
 
 -- the grant of this subcube that a user gets next, where so many subcubes were granted
 abbrev pub next_grant : (count user dim : ℕ) → Subcube → Grant
@@ -34,17 +34,20 @@ next_grant count user dim sub = record { number = count; user = user; dim = dim;
 
 -- one grant more
 abbrev pub table_with_grant : Grant → GrantTable → GrantTable
-table_with_grant grant holding = record holding { count = holding.count + 1; grants = holding.grants ++ grant ∷ [] }
+table_with_grant grant table =
+    record table { count = table.count + 1; grants = table.grants ++ grant ∷ [] }
 
 -- without the grant of a user
 abbrev pub without_user : ℕ → GrantTable → GrantTable
-without_user user holding = record holding { grants = filter (λ grant. not (is_user user grant)) holding.grants }
+without_user user table =
+    record table { grants = filter (λ grant. not (is_grant_of user grant)) table.grants }
 
 -- each node of the machine is in the free set or in one of the grants, and in one of them alone
 abbrev pub IsPartition : ℕ → List Grant → NodeSet → Type 0
-IsPartition dim held free =
-    (node : ℕ) → node < 2 ^ dim → count_by (is_granted node) held + (if has_node free node then 1 else 0) ≡ 1
+IsPartition dim grants free =
+    (node : ℕ) → node < 2 ^ dim
+    → count_by (is_granted node) grants + (if has_node free node then 1 else 0) ≡ 1
 
 -- a grant was made, with boxes, of which this holds
 abbrev pub IfGranted : {N E : Type 0} → Result (Option N) E → (N → Type 0) → Type 0
-IfGranted result P = IfOk result (λ given. IfSome given P)
+IfGranted result P = IfOk result (λ answer. IfSome answer P)

@@ -7,7 +7,8 @@ use Rattle.ce_daemon.specs.declared.grant.PeekResult.{PeekResult}
 
 -- a grant with its number
 abbrev pub numbered_grant : ℕ × CubeGrant → Grant
-numbered_grant (number, grant) = record { number = number; user = grant.user; dim = grant.dim; sub = grant.sub }
+numbered_grant (number, grant) =
+    record { number = number; user = grant.user; dim = grant.dim; sub = grant.sub }
 
 -- the cube of a grant, without its number
 abbrev pub cube_grant : Grant → CubeGrant
@@ -15,4 +16,5 @@ cube_grant grant = record { user = grant.user; dim = grant.dim; sub = grant.sub 
 
 -- what a peek finds: how many nodes are free, and which cubes are held
 abbrev pub peek_result : MachineParts → MachineState → PeekResult
-peek_result machine state = record { free = free_count machine state; grants = map numbered_grant (held_grants state) }
+peek_result machine state =
+    record { free = free_count machine state; grants = map numbered_grant (held_grants state) }

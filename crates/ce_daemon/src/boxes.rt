@@ -8,7 +8,8 @@ use ce_model::{NoMemory, Subcube};
 use ce_set::node_of;
 use std::alloc::Global;
 
-/// The numbers of so many nodes, each of which is the box of its node. `NoMemory` may come at any time.
+/// The numbers of so many nodes, each of which is the box of its node. `NoMemory` may come at any
+/// time.
 pub fn node_numbers(alloc: Global, count: u32) -> Result<Vec<u32>, NoMemory>
     ensures { IfOk result (λ boxes. AreBoxes ⟦<u32 as Homed>⟧.home ⟦<u32 as Homed>⟧.clean count
         (λ node. node) boxes.items) }
@@ -36,15 +37,15 @@ pub(crate) fn take_out<N: Homed>(
     places: &mut Vec<Option<N>>,
     sub: &Subcube,
     d: u32,
-    out: &mut Vec<N>,
+    boxes: &mut Vec<N>,
 )
     requires subcube { IsSubcube greatest_dim d sub.now }
     requires filled { (r : ℕ) → r < 2 ^ d
         → HasBox N.home N.clean places.old.items (node_of sub.now r) }
     requires places { (r : ℕ) → r < 2 ^ d → node_of sub.now r < length places.old.items }
-    requires room { 2 ^ d ≤ vec_capacity out.old }
-    requires empty { out.old.items ≡ [] }
-    ensures taken { AreBoxes N.home N.clean (2 ^ d) (node_of sub.now) out.new.items }
+    requires room { 2 ^ d ≤ vec_capacity boxes.old }
+    requires empty { boxes.old.items ≡ [] }
+    ensures taken { AreBoxes N.home N.clean (2 ^ d) (node_of sub.now) boxes.new.items }
     ensures others { (node : ℕ) → IsFalse (is_inside sub.now node)
         → HasBox N.home N.clean places.old.items node
         → HasBox N.home N.clean places.new.items node }
@@ -53,10 +54,10 @@ pub(crate) fn take_out<N: Homed>(
     for r in 0..1u32 << d {
         let node = node_of(sub, r) as usize;
         let place = &mut places[node];
-        let Some(taken) = place.take() else {
+        let Some(node_box) = place.take() else {
             unreachable!()
         };
-        out.push_reserved(taken);
+        boxes.push_reserved(node_box);
     }
 }
 

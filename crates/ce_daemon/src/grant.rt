@@ -47,7 +47,7 @@ impl Grants {
     }
 }
 
-/// What a look at the daemon shows.
+/// What a peek shows.
 #[derive(Debug, Drop)]
 pub struct PeekResult {
     /// How many nodes are free.
@@ -57,7 +57,7 @@ pub struct PeekResult {
 }
 
 // The first of the grants that the user holds.
-pub(crate) fn grant_in(grants: &[Grant], user: u32) -> Option<Grant>
+pub(crate) fn find_grant(grants: &[Grant], user: u32) -> Option<Grant>
     ensures { result ≡ find (λ grant. grant.user == user) grants.now }
 {
     grants.iter().find(|grant| grant.user == user).copied()

@@ -1,7 +1,7 @@
 ghost use Rattle.std.specs.Prelude.{◌≡◌, ℕ};
 
-/// What the daemon hands out for a node: it has its home there. A proof may know that a box is clean, as it is when a
-/// new user gets it.
+/// What the daemon hands out for a node: it has its home there. A proof may know that a box is
+/// clean, as it is when a new user gets it.
 pub trait Homed: Drop {
     // the node that is its home
     ghost home: { Self → ℕ };

@@ -1,4 +1,5 @@
-//! The daemon of a machine: it grants subcubes of free nodes to users, hands their boxes out, and takes them back.
+//! The daemon of a machine: it grants subcubes of free nodes to users, hands their boxes out, and
+//! takes them back.
 #![tactic(auto)]
 
 mod boxes;

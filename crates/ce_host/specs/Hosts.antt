@@ -6,8 +6,9 @@ use Rattle.ce_model.specs.Blocks.{Block, without_id}
 use Rattle.rk_mail.specs.Targets.{with_bytes}
 
 -- a message to one place: the least block of a store carries it there, if there is one
-abbrev pub message_to : Place → List ℕ → List Block → Option (List (Place × Block))
-message_to to bytes blocks = option_map (λ block. (to, with_bytes bytes block) ∷ []) (slice_get blocks 0)
+abbrev pub message_for_place : Place → List ℕ → List Block → Option (List (Place × Block))
+message_for_place to bytes blocks =
+    option_map (λ block. (to, with_bytes bytes block) ∷ []) (slice_get blocks 0)
 
 -- the names of a store without those of a message's blocks
 abbrev pub without_targets : List (Place × BlockId) → List BlockId → List BlockId

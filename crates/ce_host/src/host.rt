@@ -4,7 +4,7 @@ ghost use Rattle.ce_model.specs.Limits.{greatest_users, home_blocks, host_home, 
 ghost use Rattle.ce_model.specs.Blocks.{blocks_of_home, with_id};
 ghost use Rattle.xm_block.specs.Stores.{ids_of, with_block};
 ghost use Rattle.rk_mail.specs.Targets.{targets_of};
-ghost use Rattle.ce_host.specs.Hosts.{message_to, without_targets};
+ghost use Rattle.ce_host.specs.Hosts.{message_for_place, without_targets};
 
 use ce_model::{Bytes, GREATEST_BLOCKS, HOST_HOME, NoMemory, Place};
 use rk_mail::{Batch, Parcel};
@@ -21,8 +21,8 @@ pub struct Host {
 }
 
 impl Host {
-    /// The host of a user, whose number is below `GREATEST_USERS`, with all its own blocks. `NoMemory` may come at any
-    /// time.
+    /// The host of a user, whose number is below `GREATEST_USERS`, with all its own blocks.
+    /// `NoMemory` may come at any time.
     #[tactic(auto, using(ce_model::specs::Limits::greatest_users_lem, ce_model::specs::Limits::host_home_lem, ce_model::specs::Limits::home_blocks_lem, ce_model::specs::Limits::greatest_blocks_lem))]
     pub fn new(alloc: Global, user: u32) -> Result<Host, NoMemory>
         requires { user < greatest_users }
@@ -36,13 +36,13 @@ impl Host {
         Ok(Host { store, spare })
     }
 
-    /// A message of these bytes, `BLOCK_ROOM` at most, to the place, in the host's least block; None where it has no
-    /// block. The spare batch is here and empty.
+    /// A message of these bytes, `BLOCK_ROOM` at most, to the place, in the host's least block;
+    /// None where it has no block. The spare batch is here and empty.
     pub fn batch(&mut self, to: Place, bytes: &[u8]) -> Option<Batch>
         requires short { length bytes.now ≤ block_room }
         requires here { self.old.spare ≡ Some [] }
         ensures empty { IsNone result ↔ (self.old.store.blocks ≡ []) }
-        ensures message { result ≡ message_to to bytes.now self.old.store.blocks }
+        ensures message { result ≡ message_for_place to bytes.now self.old.store.blocks }
         ensures least { option_map targets_of result
             ≡ option_map (λ id. (to, id) ∷ []) (slice_get (ids_of self.old.store.blocks) 0) }
         ensures taken { IfSome result (λ batch. ids_of self.new.store.blocks
@@ -57,7 +57,7 @@ impl Host {
             unreachable!()
         };
         block.fill(bytes);
-        batch.first(to, block);
+        batch.add_first(to, block);
         Some(batch)
     }
 
@@ -69,8 +69,8 @@ impl Host {
         self.spare = Some(batch);
     }
 
-    /// The bytes of a parcel that came. Its block goes to the store, which has room for it and none of its name. With
-    /// `NoMemory`, which may come at any time, the parcel comes back.
+    /// The bytes of a parcel that came. Its block goes to the store, which has room for it and none
+    /// of its name. With `NoMemory`, which may come at any time, the parcel comes back.
     pub fn accept(&mut self, alloc: Global, parcel: Parcel) -> Result<Bytes, (Parcel, NoMemory)>
         requires room { 1 ≤ self.old.store.spare }
         requires apart { ¬ (Contains (ids_of self.old.store.blocks) parcel.block.id) }
@@ -84,7 +84,7 @@ impl Host {
         }) }
         ensures ids { OnOk result (ids_of self.new.store.blocks
             ≡ with_id parcel.block.id (ids_of self.old.store.blocks)) }
-        ensures back { IfErr result (λ refused. refused.0 ≡ parcel) }
+        ensures back { IfErr result (λ answer. answer.0 ≡ parcel) }
         ensures unchanged { OnErr result (self.new ≡ self.old) }
     {
         let Ok(items) = parcel.block.bytes().to_vec(alloc) else {

@@ -8,16 +8,16 @@ use std::alloc::Global;
 use std::test::Fail;
 use xm_block::Block;
 
-const TO: Place = Place { node: 2, pid: 1 };
+const TARGET: Place = Place { node: 2, pid: 1 };
 
-// Sends a message and gets the batch back. It answers the block that the message went out in, or None where there was
-// none.
+// Sends a message and gets the batch back. It answers the block that the message went out in, or
+// None where there was none.
 fn sent_block(host: &mut Host, bytes: &[u8]) -> Option<Block>
     requires short { length bytes.now ≤ block_room }
     requires here { host.old.spare ≡ Some [] }
     ensures here { host.new.spare ≡ Some [] }
 {
-    let mut batch = host.batch(TO, bytes)?;
+    let mut batch = host.batch(TARGET, bytes)?;
     let (_, block) = batch.take_first()?;
     host.regain(batch);
     Some(block)
@@ -99,7 +99,7 @@ fn parcel(block: Block) -> Parcel
     ensures { result.block ≡ block }
 {
     Parcel {
-        from: TO,
+        from: TARGET,
         to: Place { node: HOST, pid: 0 },
         number: 0,
         block,

@@ -3,7 +3,8 @@ use Rattle.std.specs.Prelude.{ℕ, ◌-◌, min, List, ◌++◌, length, take, d
 use Rattle.ce_io.specs.declared.calls.Calls.{Calls}
 use Rattle.ce_io.specs.Counts.{raised_count}
 
--- the numbers of the calls that fail, the number of the next call, and how many bytes a call moves at most
+-- the numbers of the calls that fail, the number of the next call, and how many bytes a call moves
+-- at most
 pub record CallPlan : Type 0 where
   pub failing_calls : List ℕ
   pub next_call : ℕ
@@ -22,8 +23,8 @@ abbrev pub IsFailingNext : CallPlan → Type 0
 IsFailingNext plan = Contains plan.failing_calls plan.next_call
 
 -- the plan after a call
-abbrev pub after_call : CallPlan → CallPlan
-after_call plan = record plan { next_call = raised_count plan.next_call 1 }
+abbrev pub next_plan : CallPlan → CallPlan
+next_plan plan = record plan { next_call = raised_count plan.next_call 1 }
 
 -- a source in memory: its plan, the bytes still to come, and its counts
 pub record SourceState : Type 0 where
@@ -37,14 +38,20 @@ abbrev pub read_len : SourceState → ℕ → ℕ
 read_len source places = min source.plan.greatest_piece (min places (length source.left))
 
 -- the source after a read of n bytes
-abbrev pub after_read : SourceState → ℕ → SourceState
-after_read source n = record source { plan = after_call source.plan; left = drop n source.left; given = raised_count source.given n }
+abbrev pub source_after_read : SourceState → ℕ → SourceState
+source_after_read source n = record source {
+  plan = next_plan source.plan;
+  left = drop n source.left;
+  given = raised_count source.given n;
+}
 
 -- the source after a read that failed
-abbrev pub after_failed_read : SourceState → SourceState
-after_failed_read source = record source { plan = after_call source.plan; faults = raised_count source.faults 1 }
+abbrev pub source_after_failed_read : SourceState → SourceState
+source_after_failed_read source =
+    record source { plan = next_plan source.plan; faults = raised_count source.faults 1 }
 
--- a sink in memory: its plan, the bytes written, for how many there is room in all, and its count of faults
+-- a sink in memory: its plan, the bytes written, for how many there is room in all, and its count
+-- of faults
 pub record SinkState : Type 0 where
   pub plan : CallPlan
   pub written : List ℕ
@@ -53,12 +60,15 @@ pub record SinkState : Type 0 where
 
 -- how many bytes of a piece the next write takes
 abbrev pub write_len : SinkState → List ℕ → ℕ
-write_len sink piece = min sink.plan.greatest_piece (min (length piece) (sink.room - length sink.written))
+write_len sink piece =
+    min sink.plan.greatest_piece (min (length piece) (sink.room - length sink.written))
 
 -- the sink after a write of n bytes of a piece
-abbrev pub after_write : SinkState → List ℕ → ℕ → SinkState
-after_write sink piece n = record sink { plan = after_call sink.plan; written = sink.written ++ take n piece }
+abbrev pub sink_after_write : SinkState → List ℕ → ℕ → SinkState
+sink_after_write sink piece n =
+    record sink { plan = next_plan sink.plan; written = sink.written ++ take n piece }
 
 -- the sink after a write that failed
-abbrev pub after_failed_write : SinkState → SinkState
-after_failed_write sink = record sink { plan = after_call sink.plan; faults = raised_count sink.faults 1 }
+abbrev pub sink_after_failed_write : SinkState → SinkState
+sink_after_failed_write sink =
+    record sink { plan = next_plan sink.plan; faults = raised_count sink.faults 1 }

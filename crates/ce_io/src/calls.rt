@@ -1,10 +1,10 @@
 //! The calls of a source or a sink in memory.
 ghost use Rattle.std.specs.Prelude.{◌≤◌};
 
-use crate::Failed;
+use crate::Failure;
 
-/// Which calls of a source or a sink in memory fail, how many bytes each other one moves at most, and how many calls
-/// failed so far.
+/// Which calls of a source or a sink in memory fail, how many bytes each other one moves at most,
+/// and how many calls failed so far.
 #[derive(Debug, Drop)]
 pub(crate) struct Calls {
     /// The numbers of the calls that fail, in any order.
@@ -21,7 +21,7 @@ pub(crate) struct Calls {
 impl Calls {
     ghost use Rattle.std.specs.Prelude.{◌≡◌, ◌↔◌, ◌⊎◌, IsErr, IsTrue};
     ghost use Rattle.ce_io.specs.Faults.{faults_after};
-    ghost use Rattle.ce_io.specs.Memory.{IsFailingNext, after_call, plan_of};
+    ghost use Rattle.ce_io.specs.Memory.{IsFailingNext, next_plan, plan_of};
 
     /// The calls before the first one.
     pub fn new(failing_calls: Vec<u64>, greatest_piece: usize) -> Calls
@@ -41,18 +41,19 @@ impl Calls {
         }
     }
 
-    /// Begins the next call, which fails where it is one of those that do, and where nothing can be moved.
-    pub fn begin(&mut self, is_blocked: bool) -> Result<(), Failed>
+    /// Begins the next call, which fails where it is one of those that do, and where nothing can be
+    /// moved.
+    pub fn begin(&mut self, is_blocked: bool) -> Result<(), Failure>
         ensures failed { IsErr result
             ↔ (IsFailingNext (plan_of self.old) ⊎ IsTrue is_blocked) }
-        ensures plan { plan_of self.new ≡ after_call (plan_of self.old) }
+        ensures plan { plan_of self.new ≡ next_plan (plan_of self.old) }
         ensures faults { self.new.faults ≡ faults_after self.old.faults result }
     {
         let is_failing = self.is_failing();
         self.next_call = self.next_call.saturating_add(1);
         if is_blocked || is_failing {
             self.faults = self.faults.saturating_add(1);
-            return Err(Failed);
+            return Err(Failure);
         }
         Ok(())
     }

@@ -1,10 +1,10 @@
-//! Sources that bytes come from and sinks that they go to: in memory with a list of the calls that fail, and over
-//! the readers and writers of `std`. Each counts its faults, so that a contract can say that a failure is answered
-//! only where one came.
+//! Sources that bytes come from and sinks that they go to: in memory with a list of the calls that
+//! fail, and over the readers and writers of `std`. Each counts its faults, so that a contract can
+//! say that a failure is answered only where one came.
 #![tactic(auto)]
 
 mod calls;
-mod failed;
+mod failure;
 mod memory_sink;
 mod memory_source;
 mod sink;
@@ -14,7 +14,7 @@ mod standard;
 mod tests;
 mod whole;
 
-pub use failed::Failed;
+pub use failure::Failure;
 pub use memory_sink::MemSink;
 pub use memory_source::MemSource;
 pub use sink::Sink;

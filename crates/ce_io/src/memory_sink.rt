@@ -1,14 +1,14 @@
 ghost use Rattle.std.specs.Prelude.{◌≡◌, ◌≤◌, ◌↔◌, ◌⊎◌, [], Some, IsErr, IfOk, OnErr, length};
-ghost use Rattle.ce_io.specs.Memory.{IsFailingNext, write_len, after_write, after_failed_write};
+ghost use Rattle.ce_io.specs.Memory.{IsFailingNext, write_len, sink_after_write, sink_after_failed_write};
 
 use crate::calls::Calls;
-use crate::{Failed, Sink};
+use crate::{Failure, Sink};
 use ce_model::NoMemory;
 use std::alloc::Global;
 use std::marker::Model;
 
-/// A sink in memory with room for so many bytes, which fails at the calls that it is told to fail at, and takes at
-/// most so many bytes a call.
+/// A sink in memory with room for so many bytes, which fails at the calls that it is told to fail
+/// at, and takes at most so many bytes a call.
 #[derive(Debug, Drop)]
 pub struct MemSink {
     bytes: Vec<u8>,
@@ -34,10 +34,11 @@ impl Model for MemSink {
 }
 
 impl MemSink {
-    /// A sink with room for `room` bytes, which are reserved here, so that no write takes memory. Its calls of
-    /// `write` are numbered from 0 up to 2^64 - 1, where the number stands still. Those whose number is in
-    /// `failing_calls`, in any order, fail, and so does each that finds no room left. Each other takes as many bytes
-    /// as `greatest_piece`, the piece and the room left allow. `NoMemory`: the room can't be reserved.
+    /// A sink with room for `room` bytes, which are reserved here, so that no write takes memory.
+    /// Its calls of `write` are numbered from 0 up to 2^64 - 1, where the number stands still.
+    /// Those whose number is in `failing_calls`, in any order, fail, and so does each that finds no
+    /// room left. Each other takes as many bytes as `greatest_piece`, the piece and the room left
+    /// allow. `NoMemory`: the room can't be reserved.
     pub fn new(
         alloc: Global,
         room: usize,
@@ -76,19 +77,20 @@ impl Sink for MemSink {
 
     ghost faults = { λ sink. sink.faults };
 
-    fn write(&mut self, from: &[u8]) -> Result<usize, Failed>
-        // It fails exactly where its plan says so or no room is left, and takes all that it may at each other call.
+    fn write(&mut self, piece: &[u8]) -> Result<usize, Failure>
+        // It fails exactly where its plan says so or no room is left, and takes all that it may at
+        // each other call.
         ensures failed { IsErr result
             ↔ (IsFailingNext self.old.plan ⊎ (self.old.room ≤ length self.old.written)) }
-        ensures err { OnErr result (self.new ≡ after_failed_write self.old) }
-        ensures ok { IfOk result (λ n. (n ≡ write_len self.old from.now)
-            × (self.new ≡ after_write self.old from.now n)) }
+        ensures err { OnErr result (self.new ≡ sink_after_failed_write self.old) }
+        ensures ok { IfOk result (λ n. (n ≡ write_len self.old piece.now)
+            × (self.new ≡ sink_after_write self.old piece.now n)) }
         ensures piece { 1 ≤ self.old.plan.greatest_piece }
     {
         let free = self.room - self.bytes.len();
         self.calls.begin(free == 0)?;
-        let count = from.len().min(free).min(self.calls.greatest_piece);
-        self.bytes.extend_from_slice(&from[..count]).unwrap();
+        let count = piece.len().min(free).min(self.calls.greatest_piece);
+        self.bytes.extend_from_slice(&piece[..count]).unwrap();
         Ok(count)
     }
 }

@@ -1,12 +1,12 @@
 ghost use Rattle.std.specs.Prelude.{◌≡◌, ◌≤◌, ◌↔◌, Some, IsErr, IfOk, OnErr, length, take};
-ghost use Rattle.ce_io.specs.Memory.{IsFailingNext, read_len, after_read, after_failed_read};
+ghost use Rattle.ce_io.specs.Memory.{IsFailingNext, read_len, source_after_read, source_after_failed_read};
 
 use crate::calls::Calls;
-use crate::{Failed, Source};
+use crate::{Failure, Source};
 use std::marker::Model;
 
-/// A source over bytes in memory, which fails at the calls that it is told to fail at, and gives at most so many
-/// bytes a call.
+/// A source over bytes in memory, which fails at the calls that it is told to fail at, and gives at
+/// most so many bytes a call.
 #[derive(Debug, Drop)]
 pub struct MemSource {
     bytes: Vec<u8>,
@@ -31,9 +31,10 @@ impl Model for MemSource {
 }
 
 impl MemSource {
-    /// A source of `bytes`. Its calls of `read` are numbered from 0 up to 2^64 - 1, where the number stands still.
-    /// Those whose number is in `failing_calls`, in any order, fail, and are counted. Each other gives as many bytes
-    /// as `greatest_piece`, the buffer and the bytes left allow.
+    /// A source of `bytes`. Its calls of `read` are numbered from 0 up to 2^64 - 1, where the
+    /// number stands still. Those whose number is in `failing_calls`, in any order, fail, and are
+    /// counted. Each other gives as many bytes as `greatest_piece`, the buffer and the bytes left
+    /// allow.
     pub fn new(bytes: Vec<u8>, failing_calls: Vec<u64>, greatest_piece: usize) -> MemSource
         requires { 1 ≤ greatest_piece }
         ensures left { result.left ≡ bytes.items }
@@ -60,19 +61,22 @@ impl Source for MemSource {
 
     ghost faults = { λ source. source.faults };
 
-    fn read(&mut self, into: &mut [u8]) -> Result<usize, Failed>
+    fn read(&mut self, buffer: &mut [u8]) -> Result<usize, Failure>
         // It fails exactly where its plan says so, and gives all that it may at each other call.
         ensures failed { IsErr result ↔ IsFailingNext self.old.plan }
-        ensures err { OnErr result (self.new ≡ after_failed_read self.old) }
-        ensures ok { IfOk result (λ n. (n ≡ read_len self.old (length into.old))
-            × (self.new ≡ after_read self.old n)) }
-        ensures bytes { IfOk result (λ n. take n into.new ≡ take n self.old.left) }
+        ensures err { OnErr result (self.new ≡ source_after_failed_read self.old) }
+        ensures ok { IfOk result (λ n. (n ≡ read_len self.old (length buffer.old))
+            × (self.new ≡ source_after_read self.old n)) }
+        ensures bytes { IfOk result (λ n. take n buffer.new ≡ take n self.old.left) }
         ensures piece { 1 ≤ self.old.plan.greatest_piece }
     {
         self.calls.begin(false)?;
-        let left = &self.bytes[self.position..];
-        let count = left.len().min(into.len()).min(self.calls.greatest_piece);
-        into[..count].copy_from_slice(&left[..count]);
+        let bytes_left = &self.bytes[self.position..];
+        let count = bytes_left
+            .len()
+            .min(buffer.len())
+            .min(self.calls.greatest_piece);
+        buffer[..count].copy_from_slice(&bytes_left[..count]);
         self.position += count;
         Ok(count)
     }

@@ -1,8 +1,8 @@
 ghost use Rattle.std.specs.Prelude.{◌≡◌, ◌<◌, ◌≤◌, ℕ, List, Option, IfOk, length};
 ghost use Rattle.ce_io.specs.Faults.{HasCause};
-ghost use Rattle.ce_io.specs.Source.{HasRead, given_after};
+ghost use Rattle.ce_io.specs.Source.{HasRead, given_count_after};
 
-use crate::Failed;
+use crate::Failure;
 
 /// Where bytes come from, in pieces of any length.
 pub trait Source {
@@ -15,12 +15,13 @@ pub trait Source {
     /// How often a read failed so far. The count stands still at 2^64 - 1.
     ghost faults: { Self → ℕ };
 
-    /// Reads the next bytes to the front of `into`, and answers how many: 0 at the end, and else from 1 to
-    /// `into.len()`. After `Failed` the same bytes are still to come, and a later read may give them.
-    fn read(&mut self, into: &mut [u8]) -> Result<usize, Failed>
-        requires { 0 < length into.old }
-        ensures count { IfOk result (λ n. n ≤ length into.new) }
-        ensures given { given self.new ≡ given_after (given self.old) result }
-        ensures left { HasRead (left self.old) (left self.new) result into.new }
+    /// Reads the next bytes to the front of `buffer`, and answers how many: 0 at the end, and else
+    /// from 1 to `buffer.len()`. After `Failure` the same bytes are still to come, and a later
+    /// read may give them.
+    fn read(&mut self, buffer: &mut [u8]) -> Result<usize, Failure>
+        requires { 0 < length buffer.old }
+        ensures count { IfOk result (λ n. n ≤ length buffer.new) }
+        ensures given { given self.new ≡ given_count_after (given self.old) result }
+        ensures left { HasRead (left self.old) (left self.new) result buffer.new }
         ensures cause { HasCause (faults self.old) (faults self.new) result };
 }

@@ -35,7 +35,7 @@ fn reading_goes_on_after_a_failed_read(rt: HostRuntime) -> Result<(), Fail> {
     let alloc = rt.alloc();
     let mut source = MemSource::new([5, 6].to_vec(alloc)?, [1].to_vec(alloc)?, 1);
     let mut piece = [0; 4];
-    for (answer, first) in [(Ok(1), 5), (Err(Failed), 5), (Ok(1), 6), (Ok(0), 6)] {
+    for (answer, first) in [(Ok(1), 5), (Err(Failure), 5), (Ok(1), 6), (Ok(0), 6)] {
         assert_eq!(rt; source.read(&mut piece), answer);
         assert_eq!(rt; piece[0], first);
     }
@@ -47,7 +47,7 @@ fn a_failed_write_takes_nothing(rt: HostRuntime) -> Result<(), Fail> {
     let alloc = rt.alloc();
     let bytes = [9; 40];
     let mut sink = MemSink::new(alloc, 64, [2].to_vec(alloc)?, 8)?;
-    assert_eq!(rt; write_all(&mut sink, &bytes), Err(Failed));
+    assert_eq!(rt; write_all(&mut sink, &bytes), Err(Failure));
     assert_eq!(rt; sink.bytes(), [9; 16].as_slice());
     assert_eq!(rt; write_all(&mut sink, &bytes), Ok(()));
     assert_eq!(rt; sink.bytes(), [9; 56].as_slice());
@@ -59,7 +59,7 @@ fn a_sink_without_room_fails(rt: HostRuntime) -> Result<(), Fail> {
     let alloc = rt.alloc();
     let mut sink = MemSink::new(alloc, 4, Vec::new(alloc), 8)?;
     assert_eq!(rt; sink.write(&[1, 2, 3, 4, 5, 6]), Ok(4));
-    assert_eq!(rt; sink.write(&[5, 6]), Err(Failed));
+    assert_eq!(rt; sink.write(&[5, 6]), Err(Failure));
     assert_eq!(rt; sink.bytes(), [1, 2, 3, 4].as_slice());
     Ok(())
 }
@@ -119,13 +119,14 @@ impl Write for Faulty {
     }
 }
 
-/// What a source or a sink answers over `CALLS`: interruptions are tried again, and each other fault is told.
-const ANSWERS: [Result<usize, Failed>; 6] = [
+/// What a source or a sink answers over `CALLS`: interruptions are tried again, and each other
+/// fault is told.
+const ANSWERS: [Result<usize, Failure>; 6] = [
     Ok(1),
-    Err(Failed),
-    Err(Failed),
-    Err(Failed),
-    Err(Failed),
+    Err(Failure),
+    Err(Failure),
+    Err(Failure),
+    Err(Failure),
     Ok(1),
 ];
 
@@ -167,5 +168,5 @@ impl Write for Narrow {
 fn a_writer_that_takes_nothing_has_failed(rt: HostRuntime) {
     let mut sink = StdSink::new(Narrow { calls: 0, room: 3 });
     assert_eq!(rt; write_all(&mut sink, &[1, 2, 3]), Ok(()));
-    assert_eq!(rt; write_all(&mut sink, &[4]), Err(Failed));
+    assert_eq!(rt; write_all(&mut sink, &[4]), Err(Failure));
 }

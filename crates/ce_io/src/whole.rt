@@ -5,7 +5,7 @@ ghost use Rattle.ce_io.specs.Faults.{HasRisen, HasCause};
 ghost use Rattle.ce_io.specs.Whole.{HasReadToEnd, reading};
 ghost use Rattle.ce_io.specs.declared.whole.ReadError.TheVariants.{Read};
 
-use crate::{Failed, Sink, Source};
+use crate::{Failure, Sink, Source};
 use ce_model::NoMemory;
 use std::alloc::{AllocError, Global};
 use thiserror::Error;
@@ -37,19 +37,20 @@ impl From<AllocError> for ReadError {
     }
 }
 
-impl From<Failed> for ReadError {
+impl From<Failure> for ReadError {
     ghost use Rattle.std.specs.Prelude.{◌≡◌};
     ghost use Rattle.ce_io.specs.declared.whole.ReadError.TheVariants.{Read};
 
     ghost from_gives = { λ _ e. e ≡ Read };
 
-    fn from(_: Failed) -> Self {
+    fn from(_: Failure) -> Self {
         ReadError::Read
     }
 }
 
-/// All the bytes of a source, up to its end. `TooLong` comes exactly where it gave more than `limit` bytes, and then
-/// it gave `PIECE` more at most; `Read` where a read failed, which is not tried again.
+/// All the bytes of a source, up to its end. `TooLong` comes exactly where it gave more than
+/// `limit` bytes, and then it gave `PIECE` more at most; `Read` where a read failed, which is not
+/// tried again.
 pub fn read_to_end<S: Source>(
     alloc: Global,
     source: &mut S,
@@ -74,18 +75,18 @@ pub fn read_to_end<S: Source>(
     }
 }
 
-/// Writes all of these bytes. After `Failed`, which comes where a write failed, the sink has taken a front part of
-/// them.
+/// Writes all of these bytes. After `Failure`, which comes where a write failed, the sink has taken
+/// a front part of them.
 #[tactic(auto, using(crate::proofs::Known::append_more, crate::proofs::Known::append_all))]
-pub fn write_all<K: Sink>(sink: &mut K, bytes: &[u8]) -> Result<(), Failed>
+pub fn write_all<K: Sink>(sink: &mut K, bytes: &[u8]) -> Result<(), Failure>
     ensures ok { OnOk result (K.written sink.new ≡ append_known (K.written sink.old) bytes.now) }
     ensures part { OnErr result ((n : ℕ)
         × (K.written sink.new ≡ append_known (K.written sink.old) (take n bytes.now))) }
     ensures cause { HasCause (K.faults sink.old) (K.faults sink.new) result }
 {
-    let mut done = 0;
-    while done < bytes.len() {
-        done += sink.write(&bytes[done..])?;
+    let mut written_count = 0;
+    while written_count < bytes.len() {
+        written_count += sink.write(&bytes[written_count..])?;
     }
     Ok(())
 }

@@ -12,12 +12,12 @@ use Rattle.atomic_table.proofs.Lists.{set_again, at_map, at_longer, set_else}
 use Rattle.ce_model.specs.declared.topology.TheConstants.{HOST}
 use Rattle.ce_lock.specs.declared.view.QueuePlace.{QueuePlace}
 use Rattle.ce_lock.specs.declared.view.Right.{Right}
-use Rattle.ce_lock.specs.declared.view.Last.{Last}
+use Rattle.ce_lock.specs.declared.view.JoinedHead.{JoinedHead}
 use Rattle.ce_lock.specs.declared.view.View.{View}
 use Rattle.ce_lock.specs.Entries.{longer_list, AtEach}
 use Rattle.ce_lock.specs.Meanings.{Meanings}
-use Rattle.ce_lock.specs.OneOrder.{IsQueue, IsFair, IsHeaded, IsSeated, IsGone, IsMissable, IsLast, IsToldPage, IsBookInOrder}
-use Rattle.ce_lock.specs.Telling.{idle_place, no_actor, copy, view_after_making, next_head, view_with_out, actor_view, view_after_meeting, view_after_joining, last_of, view_after_closing, spent_view, first_view, IsLeft}
+use Rattle.ce_lock.specs.OneOrder.{IsQueue, IsFair, IsHeaded, IsSeated, IsGone, IsMissable, IsJoinedHead, IsToldPage, IsBookInOrder}
+use Rattle.ce_lock.specs.Telling.{idle_place, no_actor, view_copy, view_after_making, next_head, view_with_out, actor_view, view_after_meeting, view_after_joining, joined_head_of, view_after_closing, spent_view, first_view, IsClosingObject}
 use Rattle.ce_lock.proofs.Members.{in_none, in_cases}
 use Rattle.ce_lock.proofs.Seats.{at_same, at_other, at_one, at_added, map_added, map_kept, each_kept, each_added, each_unset}
 use Rattle.ce_lock.proofs.Tickets.{come}
@@ -75,15 +75,15 @@ module _ {O E F : Type 0} (m : Meanings O E F) (o : O) (families : ℕ) where
         fair = subst (IsFair families) (sym rights_are) fair;
         entitled = each_added (λ (x : View O E). x.place.has_ticket ≡ true → x.right.may_draw ≡ true) vs u (λ e. clash (sym (ap (λ (p : QueuePlace). p.has_ticket) idle) ∙ e))
             (each_kept (λ (x : View O E). x.place.has_ticket ≡ true → x.right.may_draw ≡ true) s.views id w (λ e. draws ∙ r.entitled id v at e) r.entitled);
-        home = λ all. r.home (each_unset (λ (x : View O E). x.place.out ≡ false) s.views id v w at
+        home = λ all. r.home (each_unset (λ (x : View O E). x.place.has_object ≡ false) s.views id v w at
             (all id w (at_longer vs (u ∷ []) id w (at_same s.views id v w at))) (λ j x e. all j x (at_longer vs (u ∷ []) j x e)));
-        informed = each_added (λ (x : View O E). x.place.out ≡ true → x.page.seen ≡ r.history) vs u (λ e. clash (sym (ap (λ (p : QueuePlace). p.out) idle) ∙ e))
-            (each_kept (λ (x : View O E). x.place.out ≡ true → x.page.seen ≡ r.history) s.views id w (r.informed id v at) r.informed);
+        informed = each_added (λ (x : View O E). x.place.has_object ≡ true → x.page.seen ≡ r.history) vs u (λ e. clash (sym (ap (λ (p : QueuePlace). p.has_object) idle) ∙ e))
+            (each_kept (λ (x : View O E). x.place.has_object ≡ true → x.page.seen ≡ r.history) s.views id w (r.informed id v at) r.informed);
         told = each_added (λ (x : View O E). x.right.is_spent ≡ false → IsToldPage m o r.history x.right x.page) vs u told_u
             (each_kept (λ (x : View O E). x.right.is_spent ≡ false → IsToldPage m o r.history x.right x.page) s.views id w told r.told);
         gone = subst (λ (rs : List Right). AtEach (vs ++ u ∷ []) (λ x. AllByRecursion (λ l. IsGone rs l.family) x.page.joined_heads)) (sym rights_are)
             (each_added (λ (x : View O E). AllByRecursion (λ l. IsGone (set (rights s.views) id right ++ u.right ∷ []) l.family) x.page.joined_heads) vs u
-            (subst (λ (ls : List (Last E)). AllByRecursion (λ l. IsGone (set (rights s.views) id right ++ u.right ∷ []) l.family) ls) (sym lasts_u) tt)
+            (subst (λ (ls : List (JoinedHead E)). AllByRecursion (λ l. IsGone (set (rights s.views) id right ++ u.right ∷ []) l.family) ls) (sym lasts_u) tt)
             (each_kept (λ (x : View O E). AllByRecursion (λ l. IsGone (set (rights s.views) id right ++ u.right ∷ []) l.family) x.page.joined_heads) s.views id w
             (gone_at v.page.joined_heads (r.gone id v at)) (λ j x e. gone_at x.page.joined_heads (r.gone j x e))));
         made = each_added (λ (x : View O E). 0 < x.right.heads → AllByRecursion (λ e. (m.whose e).family < x.right.heads) r.history) vs u made_u
@@ -94,15 +94,15 @@ module _ {O E F : Type 0} (m : Meanings O E F) (o : O) (families : ℕ) where
             (λ ne. (l.0, l.1, at_longer vs (u ∷ []) l.0 l.1 (at_other s.views id l.0 l.1 w ne l.2), l.3, l.4));
       }
     where
-      gone_at : (ls : List (Last E)) → AllByRecursion (λ l. IsGone (rights s.views) l.family) ls → AllByRecursion (λ l. IsGone (set (rights s.views) id right ++ u.right ∷ []) l.family) ls
-      gone_at ls g = every_map (λ (l : Last E). IsGone (rights s.views) l.family) (λ l. IsGone (set (rights s.views) id right ++ u.right ∷ []) l.family) (λ l h. gone l.family h) ls g
+      gone_at : (ls : List (JoinedHead E)) → AllByRecursion (λ l. IsGone (rights s.views) l.family) ls → AllByRecursion (λ l. IsGone (set (rights s.views) id right ++ u.right ∷ []) l.family) ls
+      gone_at ls g = every_map (λ (l : JoinedHead E). IsGone (rights s.views) l.family) (λ l. IsGone (set (rights s.views) id right ++ u.right ∷ []) l.family) (λ l h. gone l.family h) ls g
 
   -- the list of rights, with one of them set to itself
   same_rights : (s : State O (View O E)) (id : ℕ) (v : View O E) → get_elem? s.views id ≡ some v → set (rights s.views) id v.right ≡ rights s.views
   same_rights s id v at = set_again (rights s.views) id v.right (at_map (λ (w : View O E). w.right) s.views id v at)
 
-  pub copies : (id : ℕ) (v : View O E) → v.right.is_spent ≡ false → Splits IsRuled id v v (copy v)
-  copies id v live s r at = comes s r id v v.right (copy v) at refl refl refl
+  pub copies : (id : ℕ) (v : View O E) → v.right.is_spent ≡ false → Splits IsRuled id v v (view_copy v)
+  copies id v live s r at = comes s r id v v.right (view_copy v) at refl refl refl
       (subst (λ (l : List Right). IsFair families (l ++ no_actor ∷ [])) (sym (same_rights s id v at)) (copy_comes families (rights s.views) r.fair))
       (λ family g. subst (λ (l : List Right). IsGone (l ++ no_actor ∷ []) family) (sym (same_rights s id v at)) (copy_gone families (rights s.views) r.fair family g))
       (r.told id v at) (λ _. told_copy m o r.history v.right no_actor v.page [] (r.told id v at live) refl) refl (r.made id v at) (λ z. absurd (omega arith))
@@ -148,16 +148,16 @@ module _ {O E F : Type 0} (m : Meanings O E F) (o : O) (families : ℕ) where
         fair = subst (IsFair families) (sym rights_are) fair;
         entitled = each_kept (λ (x : View O E). x.place.has_ticket ≡ true → x.right.may_draw ≡ true) vs other spent_view (λ e. clash e)
             (each_kept (λ (x : View O E). x.place.has_ticket ≡ true → x.right.may_draw ≡ true) s.views id both (λ e. clash (sym (ap (λ (p : QueuePlace). p.has_ticket) idle_both) ∙ e)) r.entitled);
-        home = λ all. r.home (each_unset (λ (x : View O E). x.place.out ≡ false) s.views id v both at (ap (λ (p : QueuePlace). p.out) idle)
-            (each_unset (λ (x : View O E). x.place.out ≡ false) vs other w spent_view there (ap (λ (p : QueuePlace). p.out) idle_w) all));
-        informed = each_kept (λ (x : View O E). x.place.out ≡ true → x.page.seen ≡ r.history) vs other spent_view (λ e. clash e)
-            (each_kept (λ (x : View O E). x.place.out ≡ true → x.page.seen ≡ r.history) s.views id both (λ e. clash (sym (ap (λ (p : QueuePlace). p.out) idle_both) ∙ e)) r.informed);
+        home = λ all. r.home (each_unset (λ (x : View O E). x.place.has_object ≡ false) s.views id v both at (ap (λ (p : QueuePlace). p.has_object) idle)
+            (each_unset (λ (x : View O E). x.place.has_object ≡ false) vs other w spent_view there (ap (λ (p : QueuePlace). p.has_object) idle_w) all));
+        informed = each_kept (λ (x : View O E). x.place.has_object ≡ true → x.page.seen ≡ r.history) vs other spent_view (λ e. clash e)
+            (each_kept (λ (x : View O E). x.place.has_object ≡ true → x.page.seen ≡ r.history) s.views id both (λ e. clash (sym (ap (λ (p : QueuePlace). p.has_object) idle_both) ∙ e)) r.informed);
         told = each_kept (λ (x : View O E). x.right.is_spent ≡ false → IsToldPage m o r.history x.right x.page) vs other spent_view (λ e. clash (sym e))
             (each_kept (λ (x : View O E). x.right.is_spent ≡ false → IsToldPage m o r.history x.right x.page) s.views id both (λ _. told) r.told);
         gone = subst (λ (rs : List Right). AtEach us (λ x. AllByRecursion (λ l. IsGone rs l.family) x.page.joined_heads)) (sym rights_are)
             (each_kept (λ (x : View O E). AllByRecursion (λ l. IsGone (set (set (rights s.views) id both.right) other spent_right) l.family) x.page.joined_heads) vs other spent_view tt
             (each_kept (λ (x : View O E). AllByRecursion (λ l. IsGone (set (set (rights s.views) id both.right) other spent_right) l.family) x.page.joined_heads) s.views id both lasts
-            (λ j x e. every_map (λ (l : Last E). IsGone (rights s.views) l.family) (λ l. IsGone (set (set (rights s.views) id both.right) other spent_right) l.family) (λ l h. gone l.family h) x.page.joined_heads (r.gone j x e))));
+            (λ j x e. every_map (λ (l : JoinedHead E). IsGone (rights s.views) l.family) (λ l. IsGone (set (set (rights s.views) id both.right) other spent_right) l.family) (λ l h. gone l.family h) x.page.joined_heads (r.gone j x e))));
         made = each_kept (λ (x : View O E). 0 < x.right.heads → AllByRecursion (λ e. (m.whose e).family < x.right.heads) r.history) vs other spent_view (λ z. absurd (omega arith))
             (each_kept (λ (x : View O E). 0 < x.right.heads → AllByRecursion (λ e. (m.whose e).family < x.right.heads) r.history) s.views id both made r.made);
         longest = let l = r.longest in dite (ℕ_discrete l.0 id)
@@ -181,7 +181,7 @@ module _ {O E F : Type 0} (m : Meanings O E F) (o : O) (families : ℕ) where
       goes s r id other v w (view_after_meeting v w) at ne at_w idle idle_w idle live
       (subst (IsFair families) (sym back) (copy_goes families (rights s.views) r.fair other w.right at_r (ap (λ (x : Right). x.may_draw) copied)))
       gone
-      (every_map (λ (l : Last E). IsGone (rights s.views) l.family) (λ l. IsGone (set (set (rights s.views) id v.right) other spent_right) l.family) (λ l h. gone l.family h) v.page.joined_heads (r.gone id v at))
+      (every_map (λ (l : JoinedHead E). IsGone (rights s.views) l.family) (λ l. IsGone (set (set (rights s.views) id v.right) other spent_right) l.family) (λ l h. gone l.family h) v.page.joined_heads (r.gone id v at))
       (told_joins m o r.history v.right v.right v.page w.page.seen told_w.missed_entries v.page.joined_heads told told_w.whole refl refl told.joined_heads (λ _ es h mid e. h))
       (r.made id v at)
       (λ is. whole_first v.page.seen told.missed_entries w.page.seen told_w.missed_entries r.history told.whole told_w.whole is)
@@ -198,7 +198,7 @@ module _ {O E F : Type 0} (m : Meanings O E F) (o : O) (families : ℕ) where
       goes s r id other v w (view_after_joining v w) at ne at_w idle idle_w idle live
       (takes_back families (rights s.views) r.fair id other v.right w.right at_r d host at_rw dw family worker)
       gone
-      (every_map (λ (l : Last E). IsGone (rights s.views) l.family) (λ l. IsGone (set (set (rights s.views) id (view_after_joining v w).right) other spent_right) l.family) (λ l h. gone l.family h) v.page.joined_heads (r.gone id v at))
+      (every_map (λ (l : JoinedHead E). IsGone (rights s.views) l.family) (λ l. IsGone (set (set (rights s.views) id (view_after_joining v w).right) other spent_right) l.family) (λ l h. gone l.family h) v.page.joined_heads (r.gone id v at))
       (told_joins m o r.history v.right (view_after_joining v w).right v.page w.page.seen told_w.missed_entries v.page.joined_heads told told_w.whole refl refl told.joined_heads
       (λ _ es h mid e. every_both (IsMissable m v.right) (IsMissable m w.right) (IsMissable m (view_after_joining v w).right) (both_miss v w family) es h
       (every_back (IsMissable m w.right) mid es (subst (AllByRecursion (IsMissable m w.right)) (sym e) (told_w.missable dw)))))
@@ -225,9 +225,9 @@ module _ {O E F : Type 0} (m : Meanings O E F) (o : O) (families : ℕ) where
       (subst (IsFair families) (sym back) (head_goes families (rights s.views) r.fair other w.right at_rw dw host alone))
       gone (
         subst (λ (l : List Right). IsGone l w.right.family) (sym back) (head_gone families (rights s.views) r.fair other w.right at_rw dw host alone),
-        every_map (λ (l : Last E). IsGone (rights s.views) l.family) (λ l. IsGone (set (set (rights s.views) id v.right) other spent_right) l.family) (λ l h. gone l.family h) v.page.joined_heads (r.gone id v at),
+        every_map (λ (l : JoinedHead E). IsGone (rights s.views) l.family) (λ l. IsGone (set (set (rights s.views) id v.right) other spent_right) l.family) (λ l h. gone l.family h) v.page.joined_heads (r.gone id v at),
       )
-      (told_joins m o r.history v.right v.right v.page w.page.seen told_w.missed_entries (last_of w ∷ v.page.joined_heads) told told_w.whole refl refl
+      (told_joins m o r.history v.right v.right v.page w.page.seen told_w.missed_entries (joined_head_of w ∷ v.page.joined_heads) told told_w.whole refl refl
       (told_last m o r.history w.right w.page told_w dw host alone fresh, told.joined_heads) (λ d es h mid e. h))
       (r.made id v at)
       (λ is. whole_first v.page.seen told.missed_entries w.page.seen told_w.missed_entries r.history told.whole told_w.whole is)
@@ -255,8 +255,8 @@ module _ {O E F : Type 0} (m : Meanings O E F) (o : O) (families : ℕ) where
       each = λ t low high. absurd (omega arith);
       once = λ i j p q ei ej _ _ _. only_place idle_place i p ei ∙ sym (only_place idle_place j q ej);
       has_ticket = only (λ (p : QueuePlace). p.has_ticket ≡ true → (0 ≤ p.ticket) × (p.ticket < 0)) idle_place (λ e. clash e);
-      turn = only (λ (p : QueuePlace). p.turn ≡ true → (p.has_ticket ≡ true) × (p.ticket ≡ 0)) idle_place (λ e. clash e);
-      out = only (λ (p : QueuePlace). p.out ≡ true → p.turn ≡ true) idle_place (λ e. clash e);
+      is_turn = only (λ (p : QueuePlace). p.is_turn ≡ true → (p.has_ticket ≡ true) × (p.ticket ≡ 0)) idle_place (λ e. clash e);
+      has_object = only (λ (p : QueuePlace). p.has_object ≡ true → p.is_turn ≡ true) idle_place (λ e. clash e);
     };
     fair = record {
       few = few;
@@ -269,7 +269,7 @@ module _ {O E F : Type 0} (m : Meanings O E F) (o : O) (families : ℕ) where
     };
     entitled = only (λ (u : View O E). u.place.has_ticket ≡ true → u.right.may_draw ≡ true) v (λ e. clash e);
     home = λ _. (o, refl, refl, empty);
-    informed = only (λ (u : View O E). u.place.out ≡ true → u.page.seen ≡ []) v (λ e. clash e);
+    informed = only (λ (u : View O E). u.place.has_object ≡ true → u.page.seen ≡ []) v (λ e. clash e);
     told = only (λ (u : View O E). u.right.is_spent ≡ false → IsToldPage m o [] u.right u.page) v (λ _. record { opening_is = refl; missed_entries = []; whole = refl; missable = λ _. tt; own = λ _. refl; older_histories = tt; joined_heads = tt });
     gone = only (λ (u : View O E). AllByRecursion (λ l. IsGone (v.right ∷ []) l.family) u.page.joined_heads) v tt;
     made = only (λ (u : View O E). 0 < u.right.heads → AllByRecursion (λ e. (m.whose e).family < u.right.heads) []) v (λ _. tt);
@@ -280,13 +280,14 @@ module _ {O E F : Type 0} (m : Meanings O E F) (o : O) (families : ℕ) where
       first_of_two a P h i j p q ei ej = only (λ (p : Right). P p q) a (only (λ (q : Right). P a q) a h j q ej) i p ei
 
   -- who is among the heads that went may draw no more
-  gone_in : (rs : List Right) (ls : List (Last E)) (f : ℕ) → AllByRecursion (λ l. IsGone rs l.family) ls → Contains (map (λ l. l.family) ls) f → IsGone rs f
+  gone_in : (rs : List Right) (ls : List (JoinedHead E)) (f : ℕ) → AllByRecursion (λ l. IsGone rs l.family) ls → Contains (map (λ l. l.family) ls) f → IsGone rs f
   gone_in rs [] f g h = absurd (in_none f h)
-  gone_in rs (l ∷ ls) f g h = ⊎_elim (λ (t : f ≡ l.family). subst (IsGone rs) (sym t) g.0) (λ (t : Contains (map (λ (l : Last E). l.family) ls) f). gone_in rs ls f g.1 t) (in_cases f l.family (map (λ (x : Last E). x.family) ls) h)
+  gone_in rs (l ∷ ls) f g h = ⊎_elim (λ (t : f ≡ l.family). subst (IsGone rs) (sym t) g.0) (λ (t : Contains (map (λ (l : JoinedHead E). l.family) ls) f). gone_in rs ls f g.1 t) (in_cases f l.family (map (λ (x : JoinedHead E). x.family) ls) h)
 
-  -- where the heads of all families went, the object is home, with the history that each of them saw
+  -- where the heads of all families went, the object is home, with the history that each of them
+  -- saw
   pub ends : (ws : List ℕ) (xs : List O) (id : ℕ) (v : View O E) → Final (Seen IsRuled id v) ws xs → v.right.is_spent ≡ false → ((f : ℕ) → f < families → Contains (map (λ l. l.family) v.page.joined_heads) f)
-      → (y : O) → get_elem? xs 0 ≡ some y → IsLeft m o v.page.joined_heads y
+      → (y : O) → get_elem? xs 0 ≡ some y → IsClosingObject m o v.page.joined_heads y
   ends ws xs id v final live all y is = let s = final.0 in let r = final.1.0 in let at = final.1.1 in
       let told = r.told id v at live in let home = r.home (λ j u e. nobody_out s r id v at all j u e) in
       let same : home.0 ≡ y = some-injective home.0 y (sym (final.4 0 home.0 home.1) ∙ is) in
@@ -294,13 +295,13 @@ module _ {O E F : Type 0} (m : Meanings O E F) (o : O) (families : ℕ) where
         fixed = fixed;
         lawful = subst (m.lawful (m.fixed o)) history r.lawful;
         short = subst (λ (h : List E). length h < 2 ^ 63) history r.short;
-        each = subst (λ (h : List E). AllByRecursion (IsLast m h) v.page.joined_heads) history told.joined_heads;
+        each = subst (λ (h : List E). AllByRecursion (IsJoinedHead m h) v.page.joined_heads) history told.joined_heads;
       }
     where
       nobody_out : (s : State O (View O E)) (r : IsRuled s) (id : ℕ) (v : View O E) → get_elem? s.views id ≡ some v → ((f : ℕ) → f < families → Contains (map (λ l. l.family) v.page.joined_heads) f)
-          → (j : ℕ) (u : View O E) → get_elem? s.views j ≡ some u → u.place.out ≡ false
+          → (j : ℕ) (u : View O E) → get_elem? s.views j ≡ some u → u.place.has_object ≡ false
       nobody_out s r id v at all j u e = ⊎_elim
-          (λ (out : u.place.out ≡ true). let there = place_at m o families s.views j u e in let turn = r.queue.out j u.place there out in let draws = r.entitled j u e (r.queue.turn j u.place there turn).0 in
+          (λ (out : u.place.has_object ≡ true). let there = place_at m o families s.views j u e in let turn = r.queue.has_object j u.place there out in let draws = r.entitled j u e (r.queue.is_turn j u.place there turn).0 in
           let right = right_at m o families s.views j u e in let plain = r.fair.plain j u.right right draws in
           absurd ((gone_in (rights s.views) v.page.joined_heads u.right.family (r.gone id v at) (all u.right.family plain.1) j u.right right).0 draws refl))
-          (λ (i : u.place.out ≡ false). i) (is_true_or_false u.place.out)
+          (λ (i : u.place.has_object ≡ false). i) (is_true_or_false u.place.has_object)

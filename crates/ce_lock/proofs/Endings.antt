@@ -7,13 +7,13 @@ use native.Mathlib.Decide.{ℕ_discrete}
 use Rattle.atomic_table.specs.Seated.{TableId}
 use Rattle.atomic_table.specs.Table.{Me}
 use Rattle.ce_model.specs.declared.topology.TheConstants.{HOST}
-use Rattle.ce_lock.specs.declared.view.Last.{Last}
+use Rattle.ce_lock.specs.declared.view.JoinedHead.{JoinedHead}
 use Rattle.ce_lock.specs.declared.view.View.{View}
 use Rattle.ce_lock.specs.Entries.{entries_of}
 use Rattle.ce_lock.specs.Meanings.{Meanings}
-use Rattle.ce_lock.specs.OneOrder.{IsLast}
-use Rattle.ce_lock.specs.Telling.{fresh_head, last_of}
-use Rattle.ce_lock.specs.Sitting.{BookFacts, Sitting, IsOf, IsNewHead, IsHeadIn, IsWholeSeat, IsSoundSeat, who}
+use Rattle.ce_lock.specs.OneOrder.{IsJoinedHead}
+use Rattle.ce_lock.specs.Telling.{fresh_head, joined_head_of}
+use Rattle.ce_lock.specs.Sitting.{BookFacts, SeatFacts, IsSeatOf, IsNewHead, IsHeadIn, IsWholeSeat, IsSoundSeat, who}
 use Rattle.ce_lock.proofs.Members.{in_first, in_later, in_cases}
 use Rattle.ce_lock.proofs.Histories.{every_back}
 
@@ -37,7 +37,7 @@ module _ {O E F : Type 0} (m : Meanings O E F) where
   }
 
   -- the heads that were joined away, as their seats
-  pub wholes : (book : BookFacts O) (h : List E) (ss : List (Sitting O E)) → AllByRecursion (IsHeadIn m book) ss → AllByRecursion (IsLast m h) (map (λ (s : Sitting O E). last_of s.1) ss) → AllByRecursion (IsWholeSeat m h) ss
+  pub wholes : (book : BookFacts O) (h : List E) (ss : List (SeatFacts O E)) → AllByRecursion (IsHeadIn m book) ss → AllByRecursion (IsJoinedHead m h) (map (λ (s : SeatFacts O E). joined_head_of s.1) ss) → AllByRecursion (IsWholeSeat m h) ss
   wholes book h [] heads lasts = tt
   wholes book h (s ∷ ss) heads lasts = (
     record {
@@ -50,11 +50,11 @@ module _ {O E F : Type 0} (m : Meanings O E F) where
   )
 
 -- the families of the heads that were joined away
-pub covers : {O E : Type 0} (f : ℕ) (ss : List (Sitting O E)) → Contains (map (λ (s : Sitting O E). (who s).family) ss) f → Contains (map (λ (l : Last E). l.family) (map (λ (s : Sitting O E). last_of s.1) ss)) f
+pub covers : {O E : Type 0} (f : ℕ) (ss : List (SeatFacts O E)) → Contains (map (λ (s : SeatFacts O E). (who s).family) ss) f → Contains (map (λ (l : JoinedHead E). l.family) (map (λ (s : SeatFacts O E). joined_head_of s.1) ss)) f
 covers f [] h = h
-covers f (s ∷ ss) h = let rest = map (λ (l : Last _). l.family) (map (λ (x : Sitting _ _). last_of x.1) ss) in
-    ⊎_elim (λ (t : f ≡ (who s).family). in_first f (who s).family rest t) (λ (t : Contains (map (λ (x : Sitting _ _). (who x).family) ss) f). in_later f (who s).family rest (covers f ss t))
-    (in_cases f (who s).family (map (λ (x : Sitting _ _). (who x).family) ss) h)
+covers f (s ∷ ss) h = let rest = map (λ (l : JoinedHead _). l.family) (map (λ (x : SeatFacts _ _). joined_head_of x.1) ss) in
+    ⊎_elim (λ (t : f ≡ (who s).family). in_first f (who s).family rest t) (λ (t : Contains (map (λ (x : SeatFacts _ _). (who x).family) ss) f). in_later f (who s).family rest (covers f ss t))
+    (in_cases f (who s).family (map (λ (x : SeatFacts _ _). (who x).family) ss) h)
 
 module _ {O E F : Type 0} (m : Meanings O E F) (book : BookFacts O) where
   -- the seat of a new head is that of its family
@@ -69,21 +69,21 @@ module _ {O E F : Type 0} (m : Meanings O E F) (book : BookFacts O) where
   }
 
   -- one more head is added
-  pub heads_grow : (items : List (Sitting O E)) (n : ℕ) (s : Sitting O E) → length items ≡ n → ((k : ℕ) (d : Sitting O E) → k < n → IsNewHead m book k (get_or items k d)) → IsNewHead m book n s
-      → (k : ℕ) (d : Sitting O E) → k < n + 1 → IsNewHead m book k (get_or (items ++ s ∷ []) k d)
+  pub heads_grow : (items : List (SeatFacts O E)) (n : ℕ) (s : SeatFacts O E) → length items ≡ n → ((k : ℕ) (d : SeatFacts O E) → k < n → IsNewHead m book k (get_or items k d)) → IsNewHead m book n s
+      → (k : ℕ) (d : SeatFacts O E) → k < n + 1 → IsNewHead m book k (get_or (items ++ s ∷ []) k d)
   heads_grow items n s count all mine k d low = dite (ℕ_discrete k n)
-      (λ is. subst (λ (x : ℕ × Sitting O E). IsNewHead m book x.0 x.1) (λ j. (sym is j, sym (ap (λ (i : ℕ). get_or (items ++ s ∷ []) i d) is ∙ get_or_push items s d n count) j)) mine)
+      (λ is. subst (λ (x : ℕ × SeatFacts O E). IsNewHead m book x.0 x.1) (λ j. (sym is j, sym (ap (λ (i : ℕ). get_or (items ++ s ∷ []) i d) is ∙ get_or_push items s d n count) j)) mine)
       (λ ne. let below : k < length items = omega arith in subst (IsNewHead m book k) (sym (get_or_append_left items (s ∷ []) d k below)) (all k d (omega arith)))
 
   -- what holds of all heads holds of one among them
-  pub one_of : (front : List (Sitting O E)) (s : Sitting O E) (closed all : List (Sitting O E)) → front ++ s ∷ closed ≡ all → AllByRecursion (IsHeadIn m book) all → IsHeadIn m book s
+  pub one_of : (front : List (SeatFacts O E)) (s : SeatFacts O E) (closed all : List (SeatFacts O E)) → front ++ s ∷ closed ≡ all → AllByRecursion (IsHeadIn m book) all → IsHeadIn m book s
   one_of front s closed all is heads = (every_back (IsHeadIn m book) front (s ∷ closed) (subst (AllByRecursion (IsHeadIn m book)) (sym is) heads)).0
 
 module _ {O E : Type 0} where
   -- a seat of a book is of its table
-  pub table_of : (book : BookFacts O) (s : Sitting O E) → IsOf book s → s.0 ≡ book.table
+  pub table_of : (book : BookFacts O) (s : SeatFacts O E) → IsSeatOf book s → s.0 ≡ book.table
   table_of book s is = ap (λ (x : TableId × Option O). x.0) is
 
   -- heads are taken from the end of a list
-  pub next_closed : (front : List (Sitting O E)) (s : Sitting O E) (closed all items : List (Sitting O E)) → items ++ closed ≡ all → items ≡ front ++ s ∷ [] → front ++ s ∷ closed ≡ all
-  next_closed front s closed all items whole is = sym (append_assoc front (s ∷ []) closed) ∙ (ap (λ (l : List (Sitting O E)). l ++ closed) (sym is) ∙ whole)
+  pub next_closed : (front : List (SeatFacts O E)) (s : SeatFacts O E) (closed all items : List (SeatFacts O E)) → items ++ closed ≡ all → items ≡ front ++ s ∷ [] → front ++ s ∷ closed ≡ all
+  next_closed front s closed all items whole is = sym (append_assoc front (s ∷ []) closed) ∙ (ap (λ (l : List (SeatFacts O E)). l ++ closed) (sym is) ∙ whole)

@@ -8,11 +8,11 @@ use Rattle.ce_model.specs.declared.topology.TheConstants.{HOST}
 use Rattle.ce_model.specs.Lists.{IsFront}
 use Rattle.ce_lock.specs.declared.who.Who.{Who}
 use Rattle.ce_lock.specs.declared.view.Right.{Right}
-use Rattle.ce_lock.specs.declared.view.Last.{Last}
+use Rattle.ce_lock.specs.declared.view.JoinedHead.{JoinedHead}
 use Rattle.ce_lock.specs.declared.view.Page.{Page}
 use Rattle.ce_lock.specs.Entries.{longer_list, is_of, entries_of, IsForeignEntry}
 use Rattle.ce_lock.specs.Meanings.{Meanings}
-use Rattle.ce_lock.specs.OneOrder.{who_of, IsMissable, IsLast, IsToldPage}
+use Rattle.ce_lock.specs.OneOrder.{who_of, IsMissable, IsJoinedHead, IsToldPage}
 use Rattle.ce_lock.proofs.Members.{in_none, in_later}
 
 module _ {A : Type 0} where
@@ -113,7 +113,7 @@ module _ {O E F : Type 0} (m : Meanings O E F) (opening : O) where
   pub foreign_missed : (r : Right) (es : List E) → AllByRecursion (IsMissable m r) es → AllByRecursion (IsForeignEntry m.whose m.alone (who_of r)) es
   foreign_missed r es h = every_map (IsMissable m r) (IsForeignEntry m.whose m.alone (who_of r)) (foreign_of r) es h
 
-  last_grows : (h : List E) (e : E) (l : Last E) → IsLast m h l → (m.whose e).family ≢ l.family → IsLast m (h ++ e ∷ []) l
+  last_grows : (h : List E) (e : E) (l : JoinedHead E) → IsJoinedHead m h l → (m.whose e).family ≢ l.family → IsJoinedHead m (h ++ e ∷ []) l
   last_grows h e l is ne = record {
     missed_entries = is.missed_entries ++ e ∷ [];
     whole = sym (append_assoc l.seen is.missed_entries (e ∷ [])) ∙ ap (λ (x : List E). x ++ e ∷ []) is.whole;
@@ -121,8 +121,8 @@ module _ {O E F : Type 0} (m : Meanings O E F) (opening : O) where
     others = every_append (λ x. (m.whose x).family ≢ l.family) is.missed_entries (e ∷ []) is.others (ne, tt);
   }
 
-  lasts_grow : (h : List E) (e : E) (ls : List (Last E)) → AllByRecursion (IsLast m h) ls → AllByRecursion (λ l. (m.whose e).family ≢ l.family) ls → AllByRecursion (IsLast m (h ++ e ∷ [])) ls
-  lasts_grow h e ls is ne = every_both (IsLast m h) (λ l. (m.whose e).family ≢ l.family) (IsLast m (h ++ e ∷ [])) (last_grows h e) ls is ne
+  lasts_grow : (h : List E) (e : E) (ls : List (JoinedHead E)) → AllByRecursion (IsJoinedHead m h) ls → AllByRecursion (λ l. (m.whose e).family ≢ l.family) ls → AllByRecursion (IsJoinedHead m (h ++ e ∷ [])) ls
+  lasts_grow h e ls is ne = every_both (IsJoinedHead m h) (λ l. (m.whose e).family ≢ l.family) (IsJoinedHead m (h ++ e ∷ [])) (last_grows h e) ls is ne
 
   -- another's entry is added
   pub told_grows : (h : List E) (r : Right) (p : Page O E) (e : E) → IsToldPage m opening h r p → (r.may_draw ≡ true → IsMissable m r e) → AllByRecursion (λ l. (m.whose e).family ≢ l.family) p.joined_heads
@@ -213,9 +213,10 @@ module _ {O E F : Type 0} (m : Meanings O E F) (opening : O) where
     joined_heads = t.joined_heads;
   }
 
-  -- a view takes in what another has seen: here with what it may have missed then, and its right then
-  pub told_joins : (h : List E) (r r' : Right) (p : Page O E) (seen missed_entries : List E) (lasts : List (Last E)) → IsToldPage m opening h r p → seen ++ missed_entries ≡ h → who_of r' ≡ who_of r → r'.may_draw ≡ r.may_draw
-      → AllByRecursion (IsLast m h) lasts
+  -- a view takes in what another has seen: here with what it may have missed then, and its right
+  -- then
+  pub told_joins : (h : List E) (r r' : Right) (p : Page O E) (seen missed_entries : List E) (lasts : List (JoinedHead E)) → IsToldPage m opening h r p → seen ++ missed_entries ≡ h → who_of r' ≡ who_of r → r'.may_draw ≡ r.may_draw
+      → AllByRecursion (IsJoinedHead m h) lasts
       → (r.may_draw ≡ true → (es : List E) → AllByRecursion (IsMissable m r) es → (mid : List E) → mid ++ es ≡ missed_entries → AllByRecursion (IsMissable m r') es)
       → IsToldPage m opening h r' (record p { seen = longer_list p.seen seen; older_histories = p.seen ∷ seen ∷ p.older_histories; joined_heads = lasts })
   told_joins h r r' p seen missed_entries lasts t whole who draws lasts_are fine = ⊎_elim
@@ -238,7 +239,7 @@ module _ {O E F : Type 0} (m : Meanings O E F) (opening : O) where
 
   -- what is kept of a head with nobody out
   pub told_last : (h : List E) (r : Right) (p : Page O E) → IsToldPage m opening h r p → r.may_draw ≡ true → r.actor ≡ HOST → r.absent_actors ≡ [] → p.earlier ≡ []
-      → IsLast m h (record { family = r.family; mine = p.mine; seen = p.seen })
+      → IsJoinedHead m h (record { family = r.family; mine = p.mine; seen = p.seen })
   told_last h r p t d host nobody_out none = record {
     missed_entries = t.missed_entries;
     whole = t.whole;

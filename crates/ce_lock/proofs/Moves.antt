@@ -15,12 +15,12 @@ use Rattle.ce_model.specs.Lists.{IsFront}
 use Rattle.ce_lock.specs.declared.who.Who.{Who}
 use Rattle.ce_lock.specs.declared.view.QueuePlace.{QueuePlace}
 use Rattle.ce_lock.specs.declared.view.Right.{Right}
-use Rattle.ce_lock.specs.declared.view.Last.{Last}
+use Rattle.ce_lock.specs.declared.view.JoinedHead.{JoinedHead}
 use Rattle.ce_lock.specs.declared.view.View.{View}
 use Rattle.ce_lock.specs.Entries.{AtEach, entries_of}
 use Rattle.ce_lock.specs.Meanings.{Meanings}
 use Rattle.ce_lock.specs.OneOrder.{IsQueue, IsFair, IsGone, who_of, IsMissable, IsToldPage, IsBookInOrder}
-use Rattle.ce_lock.specs.Telling.{idle_place, place_waiting, served_place, place_holding, view_at, view_with_seen, view_after_entry, settled_view, HasDrawn, HasLookedAtTicket, HasGivenObject, HasLeft, HasTakenObject, HasCommitted, IsSettled}
+use Rattle.ce_lock.specs.Telling.{idle_place, place_waiting, served_place, place_holding, view_at, view_with_seen, view_after_entry, settled_view, HasDrawn, HasLookedAtTicket, HasGivenObject, HasLeftTurn, HasTakenObject, HasCommitted, IsSettled}
 use Rattle.ce_lock.proofs.Members.{in_none}
 use Rattle.ce_lock.proofs.Seats.{at_same, at_other, at_one, at_unmap, map_kept, each_kept, each_set, each_unset}
 use Rattle.ce_lock.proofs.Tickets.{retell, draw, leave, one_at_turn, served}
@@ -107,8 +107,8 @@ module _ {O E F : Type 0} (m : Meanings O E F) (opening : O) (families : ℕ) wh
   turns : (s : St) (r : IsRuled s) (id : ℕ) (v w : V) → get_elem? s.views id ≡ some v → w.right ≡ v.right → w.page.joined_heads ≡ v.page.joined_heads
       → (w.right.is_spent ≡ false → IsToldPage m opening r.history w.right w.page) → (v.page.seen ≡ r.history → w.page.seen ≡ r.history)
       → (now next : ℕ) (words : List ℕ) → words ≡ next % 2 ^ 64 ∷ now % 2 ^ 64 ∷ length r.history ∷ [] → IsQueue now next (set (map place_of s.views) id w.place)
-      → (w.place.has_ticket ≡ true → w.right.may_draw ≡ true) → (homes : List (Option O)) → (AtEach (set s.views id w) (λ u. u.place.out ≡ false) → IsHome homes r.history)
-      → (w.place.out ≡ true → w.page.seen ≡ r.history) → IsRuled record { words = words; homes = homes; views = set s.views id w }
+      → (w.place.has_ticket ≡ true → w.right.may_draw ≡ true) → (homes : List (Option O)) → (AtEach (set s.views id w) (λ u. u.place.has_object ≡ false) → IsHome homes r.history)
+      → (w.place.has_object ≡ true → w.page.seen ≡ r.history) → IsRuled record { words = words; homes = homes; views = set s.views id w }
   turns s r id v w at right lasts told seen now next words words_are queue entitled homes home informed =
       let rights : map right_of (set s.views id w) ≡ map right_of s.views = map_kept right_of s.views id v w at right in record {
         now = now;
@@ -121,22 +121,22 @@ module _ {O E F : Type 0} (m : Meanings O E F) (opening : O) (families : ℕ) wh
         fair = subst (IsFair families) (sym rights) r.fair;
         entitled = each_kept (λ (u : V). u.place.has_ticket ≡ true → u.right.may_draw ≡ true) s.views id w entitled r.entitled;
         home = home;
-        informed = each_kept (λ (u : V). u.place.out ≡ true → u.page.seen ≡ r.history) s.views id w informed r.informed;
+        informed = each_kept (λ (u : V). u.place.has_object ≡ true → u.page.seen ≡ r.history) s.views id w informed r.informed;
         told = each_kept (λ (u : V). u.right.is_spent ≡ false → IsToldPage m opening r.history u.right u.page) s.views id w told r.told;
         gone = subst (λ (rs : List Right). AtEach (set s.views id w) (λ u. AllByRecursion (λ l. IsGone rs l.family) u.page.joined_heads)) (sym rights)
             (each_kept (λ (u : V). AllByRecursion (λ l. IsGone (map right_of s.views) l.family) u.page.joined_heads) s.views id w
-            (subst (λ (ls : List (Last E)). AllByRecursion (λ l. IsGone (map right_of s.views) l.family) ls) (sym lasts) (r.gone id v at)) r.gone);
+            (subst (λ (ls : List (JoinedHead E)). AllByRecursion (λ l. IsGone (map right_of s.views) l.family) ls) (sym lasts) (r.gone id v at)) r.gone);
         made = each_kept (λ (u : V). 0 < u.right.heads → AllByRecursion (λ e. (m.whose e).family < u.right.heads) r.history) s.views id w
             (subst (λ (z : Right). 0 < z.heads → AllByRecursion (λ e. (m.whose e).family < z.heads) r.history) (sym right) (r.made id v at)) r.made;
         longest = longest_kept s.views r.history id v w at (ap (λ (z : Right). z.is_spent) right) seen r.longest;
       }
 
   -- the same, where only the place changes and the object stays where it is
-  stays : (s : St) (r : IsRuled s) (id : ℕ) (v : V) (p : QueuePlace) → get_elem? s.views id ≡ some v → v.place.out ≡ false → p.out ≡ false
+  stays : (s : St) (r : IsRuled s) (id : ℕ) (v : V) (p : QueuePlace) → get_elem? s.views id ≡ some v → v.place.has_object ≡ false → p.has_object ≡ false
       → (now next : ℕ) (words : List ℕ) → words ≡ next % 2 ^ 64 ∷ now % 2 ^ 64 ∷ length r.history ∷ [] → IsQueue now next (set (map place_of s.views) id p)
       → (p.has_ticket ≡ true → v.right.may_draw ≡ true) → IsRuled record { words = words; homes = s.homes; views = set s.views id (view_at v p) }
   stays s r id v p at in_ out now next words words_are queue entitled = turns s r id v (view_at v p) at refl refl (λ live. r.told id v at live) (λ e. e) now next words words_are queue entitled s.homes
-      (λ all. r.home (each_unset (λ (u : V). u.place.out ≡ false) s.views id v (view_at v p) at in_ all)) (λ e. clash (sym out ∙ e))
+      (λ all. r.home (each_unset (λ (u : V). u.place.has_object ≡ false) s.views id v (view_at v p) at in_ all)) (λ e. clash (sym out ∙ e))
 
   -- nothing changes
   same_state : (s : St) (i id : ℕ) (v : V) → get_elem? s.views id ≡ some v → IsRuled s → IsRuled record { words = set s.words i (get_or s.words i 0); homes = s.homes; views = set s.views id v }
@@ -181,7 +181,7 @@ module _ {O E F : Type 0} (m : Meanings O E F) (opening : O) (families : ℕ) wh
         view_at me.0 (place_waiting r.next),
         keeps,
         tt,
-        stays s r id me.0 (place_waiting r.next) at (ap (λ (p : QueuePlace). p.out) idle) refl r.now (suc r.next) (set s.words 0 ((get_or s.words 0 0 + 1) % 2 ^ 64))
+        stays s r id me.0 (place_waiting r.next) at (ap (λ (p : QueuePlace). p.has_object) idle) refl r.now (suc r.next) (set s.words 0 ((get_or s.words 0 0 + 1) % 2 ^ 64))
             (ap (λ (z : ℕ). set s.words 0 ((z + 1) % 2 ^ 64)) word ∙ (ap (set s.words 0) (next_word r.next) ∙ first_word s.words (r.next % 2 ^ 64) (r.now % 2 ^ 64) (length r.history) (suc r.next % 2 ^ 64) r.words))
             (draw r.now r.next (map place_of s.views) r.queue id me.0.place (place_at s.views id me.0 at) not_drawn (few_out s r id me.0 at not_drawn d)) (λ _. d),
         record { ticket = r.next; found_is = sym word; after_is = refl },
@@ -196,7 +196,7 @@ module _ {O E F : Type 0} (m : Meanings O E F) (opening : O) (families : ℕ) wh
         view_at me.0 (served_place t),
         keeps,
         tt,
-        stays s r id me.0 (served_place t) at (ap (λ (p : QueuePlace). p.out) is) refl r.now r.next (set s.words 1 (get_or s.words 1 0)) (same_words s r 1)
+        stays s r id me.0 (served_place t) at (ap (λ (p : QueuePlace). p.has_object) is) refl r.now r.next (set s.words 1 (get_or s.words 1 0)) (same_words s r 1)
             (retell r.now r.next (map place_of s.views) r.queue id me.0.place (served_place t) (place_at s.views id me.0 at) drawn refl (sym ticket) (λ _. now) (λ e. clash e)) (λ _. r.entitled id me.0 at drawn),
         record {
           yes = λ t' is' _. let same : t ≡ t' = sym ticket ∙ ap (λ (p : QueuePlace). p.ticket) is' in ap (λ (z : ℕ). (view_at me.0 (served_place z), me.1)) same;
@@ -212,24 +212,24 @@ module _ {O E F : Type 0} (m : Meanings O E F) (opening : O) (families : ℕ) wh
       ))
 
   -- one at most has the object out, so at the turn of a view that hasn't, nobody has
-  all_in : (s : St) (r : IsRuled s) (id : ℕ) (v : V) → get_elem? s.views id ≡ some v → v.place.turn ≡ true → v.place.out ≡ false → AtEach s.views (λ u. u.place.out ≡ false)
+  all_in : (s : St) (r : IsRuled s) (id : ℕ) (v : V) → get_elem? s.views id ≡ some v → v.place.is_turn ≡ true → v.place.has_object ≡ false → AtEach s.views (λ u. u.place.has_object ≡ false)
   all_in s r id v at turn in_ j u e = ⊎_elim
-      (λ (out : u.place.out ≡ true). let same = one_at_turn r.now r.next (map place_of s.views) r.queue id j v.place u.place (place_at s.views id v at) (place_at s.views j u e) turn (r.queue.out j u.place (place_at s.views j u e) out) in
-      ap (λ (z : V). z.place.out) (sym (at_one s.views id v u at (ap (get_elem? s.views) same ∙ e))) ∙ in_)
-      (λ (i : u.place.out ≡ false). i) (is_true_or_false u.place.out)
+      (λ (out : u.place.has_object ≡ true). let same = one_at_turn r.now r.next (map place_of s.views) r.queue id j v.place u.place (place_at s.views id v at) (place_at s.views j u e) turn (r.queue.has_object j u.place (place_at s.views j u e) out) in
+      ap (λ (z : V). z.place.has_object) (sym (at_one s.views id v u at (ap (get_elem? s.views) same ∙ e))) ∙ in_)
+      (λ (i : u.place.has_object ≡ false). i) (is_true_or_false u.place.has_object)
 
   pub takes_out : (slots id : ℕ) (me : M) (t : ℕ) → me.0.place ≡ served_place t → Allows IsRuled slots id me 2 (λ n. n) (λ _ m'. HasTakenObject m me m')
   takes_out slots id me t is s r _ at _ =
       let drawn : me.0.place.has_ticket ≡ true = ap (λ (p : QueuePlace). p.has_ticket) is in let draws : me.0.right.may_draw ≡ true = r.entitled id me.0 at drawn in
-      let ticket : me.0.place.ticket ≡ t = ap (λ (p : QueuePlace). p.ticket) is in let turn : me.0.place.turn ≡ true = ap (λ (p : QueuePlace). p.turn) is in
-      let told = r.told id me.0 at (not_spent s r id me.0 at draws) in let y = r.home (all_in s r id me.0 at turn (ap (λ (p : QueuePlace). p.out) is)) in
+      let ticket : me.0.place.ticket ≡ t = ap (λ (p : QueuePlace). p.ticket) is in let turn : me.0.place.is_turn ≡ true = ap (λ (p : QueuePlace). p.is_turn) is in
+      let told = r.told id me.0 at (not_spent s r id me.0 at draws) in let y = r.home (all_in s r id me.0 at turn (ap (λ (p : QueuePlace). p.has_object) is)) in
       let w : V = view_at (view_with_seen me.0 (me.0.page.seen ++ told.missed_entries)) (place_holding t) in (
         w,
         takes 0 y.0,
         y.1,
         turns s r id me.0 w at refl refl (λ _. subst (λ (l : List E). IsToldPage m opening r.history me.0.right (record me.0.page { seen = l })) (sym told.whole) (told_reads m opening r.history me.0.right me.0.page told)) (λ _. told.whole)
             r.now r.next (set s.words 2 (get_or s.words 2 0)) (same_words s r 2)
-            (retell r.now r.next (map place_of s.views) r.queue id me.0.place (place_holding t) (place_at s.views id me.0 at) drawn refl (sym ticket) (λ _. sym ticket ∙ (r.queue.turn id me.0.place (place_at s.views id me.0 at) turn).1) (λ _. refl))
+            (retell r.now r.next (map place_of s.views) r.queue id me.0.place (place_holding t) (place_at s.views id me.0 at) drawn refl (sym ticket) (λ _. sym ticket ∙ (r.queue.is_turn id me.0.place (place_at s.views id me.0 at) turn).1) (λ _. refl))
             (λ _. draws) (set s.homes 0 none) (λ all. clash (sym (all id w (at_same s.views id me.0 w at)))) (λ _. told.whole),
         record {
           opening = opening;
@@ -249,28 +249,28 @@ module _ {O E F : Type 0} (m : Meanings O E F) (opening : O) (families : ℕ) wh
       → Allows IsRuled slots id me 2 (λ n. n) (λ _ m'. HasGivenObject me m')
   gives_back slots id me t y o one is hand opened fixed history s r count at _ =
       let drawn : me.0.place.has_ticket ≡ true = ap (λ (p : QueuePlace). p.has_ticket) is in let draws : me.0.right.may_draw ≡ true = r.entitled id me.0 at drawn in
-      let ticket : me.0.place.ticket ≡ t = ap (λ (p : QueuePlace). p.ticket) is in let turn : me.0.place.turn ≡ true = ap (λ (p : QueuePlace). p.turn) is in
+      let ticket : me.0.place.ticket ≡ t = ap (λ (p : QueuePlace). p.ticket) is in let turn : me.0.place.is_turn ≡ true = ap (λ (p : QueuePlace). p.is_turn) is in
       let told = r.told id me.0 at (not_spent s r id me.0 at draws) in let same : o ≡ opening = cc (opened, told.opening_is) in
-      let all : me.0.page.seen ≡ r.history = r.informed id me.0 at (ap (λ (p : QueuePlace). p.out) is) in (
+      let all : me.0.page.seen ≡ r.history = r.informed id me.0 at (ap (λ (p : QueuePlace). p.has_object) is) in (
         view_at me.0 (served_place t),
         gives,
         tt,
         turns s r id me.0 (view_at me.0 (served_place t)) at refl refl (λ live. r.told id me.0 at live) (λ e. e) r.now r.next (set s.words 2 (get_or s.words 2 0)) (same_words s r 2)
-            (retell r.now r.next (map place_of s.views) r.queue id me.0.place (served_place t) (place_at s.views id me.0 at) drawn refl (sym ticket) (λ _. sym ticket ∙ (r.queue.turn id me.0.place (place_at s.views id me.0 at) turn).1) (λ e. clash e))
+            (retell r.now r.next (map place_of s.views) r.queue id me.0.place (served_place t) (place_at s.views id me.0 at) drawn refl (sym ticket) (λ _. sym ticket ∙ (r.queue.is_turn id me.0.place (place_at s.views id me.0 at) turn).1) (λ e. clash e))
             (λ _. draws) (put_back s.homes me.1)
             (λ _. (y, subst (λ (l : List (ℕ × O)). get_elem? (put_back s.homes l) 0 ≡ some (some y)) (sym hand) (set_here s.homes 0 (some y) (omega arith)), fixed ∙ ap m.fixed same, history ∙ all)) (λ e. clash e),
         λ t' is'. let same_ticket : t ≡ t' = sym ticket ∙ ap (λ (p : QueuePlace). p.ticket) is' in ap (λ (z : ℕ). (view_at me.0 (served_place z), rest me.1)) same_ticket,
       )
 
-  pub leaves : (slots id : ℕ) (me : M) (t : ℕ) → me.0.place ≡ served_place t → Allows IsRuled slots id me 1 (λ n. (n + 1) % 2 ^ 64) (λ _ m'. HasLeft me m')
+  pub leaves : (slots id : ℕ) (me : M) (t : ℕ) → me.0.place ≡ served_place t → Allows IsRuled slots id me 1 (λ n. (n + 1) % 2 ^ 64) (λ _ m'. HasLeftTurn me m')
   leaves slots id me t is s r _ at _ =
       let word : get_or s.words 1 0 ≡ r.now % 2 ^ 64 = ap (λ (l : List ℕ). get_or l 1 0) r.words in (
         view_at me.0 idle_place,
         keeps,
         tt,
-        stays s r id me.0 idle_place at (ap (λ (p : QueuePlace). p.out) is) refl (suc r.now) r.next (set s.words 1 ((get_or s.words 1 0 + 1) % 2 ^ 64))
+        stays s r id me.0 idle_place at (ap (λ (p : QueuePlace). p.has_object) is) refl (suc r.now) r.next (set s.words 1 ((get_or s.words 1 0 + 1) % 2 ^ 64))
             (ap (λ (z : ℕ). set s.words 1 ((z + 1) % 2 ^ 64)) word ∙ (ap (set s.words 1) (next_word r.now) ∙ second_word s.words (r.next % 2 ^ 64) (r.now % 2 ^ 64) (length r.history) (suc r.now % 2 ^ 64) r.words))
-            (leave r.now r.next (map place_of s.views) r.queue id me.0.place (place_at s.views id me.0 at) (ap (λ (p : QueuePlace). p.turn) is)) (λ e. clash e),
+            (leave r.now r.next (map place_of s.views) r.queue id me.0.place (place_at s.views id me.0 at) (ap (λ (p : QueuePlace). p.is_turn) is)) (λ e. clash e),
         refl,
       )
 
@@ -284,7 +284,7 @@ module _ {O E F : Type 0} (m : Meanings O E F) (opening : O) (families : ℕ) wh
         tt,
         turns s r id me.0 (settled_view me.0) at refl refl (λ _. told_settles m opening r.history me.0.right me.0.page told) (λ e. e) r.now r.next (set s.words 2 (get_or s.words 2 0)) (same_words s r 2)
             (subst (IsQueue r.now r.next) (sym (set_again (map place_of s.views) id me.0.place (place_at s.views id me.0 at))) r.queue)
-            (r.entitled id me.0 at) s.homes (λ all. r.home (each_unset (λ (u : V). u.place.out ≡ false) s.views id me.0 (settled_view me.0) at (ap (λ (p : QueuePlace). p.out) is) all)) (r.informed id me.0 at),
+            (r.entitled id me.0 at) s.homes (λ all. r.home (each_unset (λ (u : V). u.place.has_object ≡ false) s.views id me.0 (settled_view me.0) at (ap (λ (p : QueuePlace). p.has_object) is) all)) (r.informed id me.0 at),
         record {
           opening = opening;
           opening_is = told.opening_is;
@@ -336,9 +336,9 @@ module _ {O E F : Type 0} (m : Meanings O E F) (opening : O) (families : ℕ) wh
   commits slots id me t y o e is hand opened history lawful short mine alone s r _ at _ =
       let drawn : me.0.place.has_ticket ≡ true = ap (λ (p : QueuePlace). p.has_ticket) is in let d : me.0.right.may_draw ≡ true = r.entitled id me.0 at drawn in
       let told = r.told id me.0 at (not_spent s r id me.0 at d) in let same : o ≡ opening = cc (opened, told.opening_is) in
-      let all : me.0.page.seen ≡ r.history = r.informed id me.0 at (ap (λ (p : QueuePlace). p.out) is) in
+      let all : me.0.page.seen ≡ r.history = r.informed id me.0 at (ap (λ (p : QueuePlace). p.has_object) is) in
       let h' : List E = r.history ++ e ∷ [] in let longer_is : me.0.page.seen ++ e ∷ [] ≡ h' = ap (λ (l : List E). l ++ e ∷ []) all in
-      let w : V = view_after_entry me.0 e in let turn : me.0.place.turn ≡ true = ap (λ (p : QueuePlace). p.turn) is in
+      let w : V = view_after_entry me.0 e in let turn : me.0.place.is_turn ≡ true = ap (λ (p : QueuePlace). p.is_turn) is in
       let few : length r.history + 1 < 2 ^ 63 = omega (arith, length_push r.history e, ap length longer_is) in
       let count : (length r.history + 1) % 2 ^ 64 ≡ length h' = mod-eq_of_lt (omega arith) ∙ sym (length_push r.history e) in
       let word : get_or s.words 2 0 ≡ length r.history = ap (λ (l : List ℕ). get_or l 2 0) r.words in
@@ -357,10 +357,10 @@ module _ {O E F : Type 0} (m : Meanings O E F) (opening : O) (families : ℕ) wh
           queue = subst (IsQueue r.now r.next) (sym places) r.queue;
           fair = subst (IsFair families) (sym rights) r.fair;
           entitled = each_kept (λ (u : V). u.place.has_ticket ≡ true → u.right.may_draw ≡ true) s.views id w (λ _. d) r.entitled;
-          home = λ in_. clash (sym (in_ id w (at_same s.views id me.0 w at)) ∙ ap (λ (p : QueuePlace). p.out) is);
-          informed = each_set (λ (u : V). u.place.out ≡ true → u.page.seen ≡ h') s.views id w (λ _. longer_is)
+          home = λ in_. clash (sym (in_ id w (at_same s.views id me.0 w at)) ∙ ap (λ (p : QueuePlace). p.has_object) is);
+          informed = each_set (λ (u : V). u.place.has_object ≡ true → u.page.seen ≡ h') s.views id w (λ _. longer_is)
               (λ j u ne at' out. absurd (ne (one_at_turn r.now r.next (map place_of s.views) r.queue j id u.place me.0.place (place_at s.views j u at') (place_at s.views id me.0 at)
-              (r.queue.out j u.place (place_at s.views j u at') out) turn)));
+              (r.queue.has_object j u.place (place_at s.views j u at') out) turn)));
           told = each_set (λ (u : V). u.right.is_spent ≡ false → IsToldPage m opening h' u.right u.page) s.views id w
               (λ _. told_wrote m opening r.history me.0.right me.0.page e told all mine (apart_from_gone s r id me.0 at d e mine alone id me.0 at))
               (λ j u ne at' live. told_grows m opening r.history u.right u.page e (r.told j u at' live) (λ du. missable_by s r id me.0 at d e mine alone j u ne at' du) (apart_from_gone s r id me.0 at d e mine alone j u at'));

@@ -16,7 +16,7 @@ false_true e = absurd (cc)
 module _ (now next : ℕ) (ps : List QueuePlace) (q : IsQueue now next ps) where
   -- a place that has drawn tells something else of the same ticket
   pub retell : (id : ℕ) (p p' : QueuePlace) → get_elem? ps id ≡ some p → p.has_ticket ≡ true → p'.has_ticket ≡ true → p'.ticket ≡ p.ticket
-      → (p'.turn ≡ true → p'.ticket ≡ now) → (p'.out ≡ true → p'.turn ≡ true) → IsQueue now next (set ps id p')
+      → (p'.is_turn ≡ true → p'.ticket ≡ now) → (p'.has_object ≡ true → p'.is_turn ≡ true) → IsQueue now next (set ps id p')
   retell id p p' at d d' same turn out = record {
     up = q.up;
     few = q.few;
@@ -35,8 +35,8 @@ module _ (now next : ℕ) (ps : List QueuePlace) (q : IsQueue now next ps) where
         (at_set ps id i p' a ea);
     has_ticket = each_kept (λ (z : QueuePlace). z.has_ticket ≡ true → (now ≤ z.ticket) × (z.ticket < next)) ps id p'
         (λ _. let h = q.has_ticket id p at d in (omega (arith, h.0, same), omega (arith, h.1, same))) q.has_ticket;
-    turn = each_kept (λ (z : QueuePlace). z.turn ≡ true → (z.has_ticket ≡ true) × (z.ticket ≡ now)) ps id p' (λ e. (d', turn e)) q.turn;
-    out = each_kept (λ (z : QueuePlace). z.out ≡ true → z.turn ≡ true) ps id p' out q.out;
+    is_turn = each_kept (λ (z : QueuePlace). z.is_turn ≡ true → (z.has_ticket ≡ true) × (z.ticket ≡ now)) ps id p' (λ e. (d', turn e)) q.is_turn;
+    has_object = each_kept (λ (z : QueuePlace). z.has_object ≡ true → z.is_turn ≡ true) ps id p' out q.has_object;
   }
 
   -- one more ticket is drawn
@@ -59,17 +59,17 @@ module _ (now next : ℕ) (ps : List QueuePlace) (q : IsQueue now next ps) where
         (at_set ps id i (place_waiting next) a ea);
     has_ticket = each_set (λ (z : QueuePlace). z.has_ticket ≡ true → (now ≤ z.ticket) × (z.ticket < suc next)) ps id (place_waiting next) (λ _. (up, omega arith))
         (λ j x _ e d'. let h = q.has_ticket j x e d' in (h.0, omega (arith, h.1)));
-    turn = each_kept (λ (z : QueuePlace). z.turn ≡ true → (z.has_ticket ≡ true) × (z.ticket ≡ now)) ps id (place_waiting next) (λ e. false_true e) q.turn;
-    out = each_kept (λ (z : QueuePlace). z.out ≡ true → z.turn ≡ true) ps id (place_waiting next) (λ e. false_true e) q.out;
+    is_turn = each_kept (λ (z : QueuePlace). z.is_turn ≡ true → (z.has_ticket ≡ true) × (z.ticket ≡ now)) ps id (place_waiting next) (λ e. false_true e) q.is_turn;
+    has_object = each_kept (λ (z : QueuePlace). z.has_object ≡ true → z.is_turn ≡ true) ps id (place_waiting next) (λ e. false_true e) q.has_object;
   }
 
   -- whoever is at its turn is the one whose ticket is served
-  pub one_at_turn : (i j : ℕ) (a b : QueuePlace) → get_elem? ps i ≡ some a → get_elem? ps j ≡ some b → a.turn ≡ true → b.turn ≡ true → i ≡ j
-  one_at_turn i j a b ea eb ta tb = let x = q.turn i a ea ta in let y = q.turn j b eb tb in q.once i j a b ea eb x.0 y.0 (x.1 ∙ sym y.1)
+  pub one_at_turn : (i j : ℕ) (a b : QueuePlace) → get_elem? ps i ≡ some a → get_elem? ps j ≡ some b → a.is_turn ≡ true → b.is_turn ≡ true → i ≡ j
+  one_at_turn i j a b ea eb ta tb = let x = q.is_turn i a ea ta in let y = q.is_turn j b eb tb in q.once i j a b ea eb x.0 y.0 (x.1 ∙ sym y.1)
 
   -- the one whose ticket is served leaves
-  pub leave : (id : ℕ) (p : QueuePlace) → get_elem? ps id ≡ some p → p.turn ≡ true → IsQueue (suc now) next (set ps id idle_place)
-  leave id p at mine = let m = q.turn id p at mine in let range = q.has_ticket id p at m.0 in record {
+  pub leave : (id : ℕ) (p : QueuePlace) → get_elem? ps id ≡ some p → p.is_turn ≡ true → IsQueue (suc now) next (set ps id idle_place)
+  leave id p at mine = let m = q.is_turn id p at mine in let range = q.has_ticket id p at m.0 in record {
     up = omega (arith, m.1, range.1);
     few = let few = q.few in omega arith;
     each = λ t low high. let h = q.each t (omega arith) high in
@@ -83,9 +83,9 @@ module _ (now next : ℕ) (ps : List QueuePlace) (q : IsQueue now next ps) where
         (at_set ps id i idle_place a ea);
     has_ticket = each_set (λ (z : QueuePlace). z.has_ticket ≡ true → (suc now ≤ z.ticket) × (z.ticket < next)) ps id idle_place (λ e. false_true e)
         (λ j x ne e d. let h = q.has_ticket j x e d in (dite (ℕ_discrete x.ticket now) (λ same. absurd (ne (q.once j id x p e at d m.0 (same ∙ sym m.1)))) (λ other. omega (arith, h.0)), h.1));
-    turn = each_set (λ (z : QueuePlace). z.turn ≡ true → (z.has_ticket ≡ true) × (z.ticket ≡ suc now)) ps id idle_place (λ e. false_true e)
+    is_turn = each_set (λ (z : QueuePlace). z.is_turn ≡ true → (z.has_ticket ≡ true) × (z.ticket ≡ suc now)) ps id idle_place (λ e. false_true e)
         (λ j x ne e t. absurd (ne (one_at_turn j id x p e at t mine)));
-    out = each_kept (λ (z : QueuePlace). z.out ≡ true → z.turn ≡ true) ps id idle_place (λ e. false_true e) q.out;
+    has_object = each_kept (λ (z : QueuePlace). z.has_object ≡ true → z.is_turn ≡ true) ps id idle_place (λ e. false_true e) q.has_object;
   }
 
   -- a view that has drawn nothing comes
@@ -102,8 +102,8 @@ module _ (now next : ℕ) (ps : List QueuePlace) (q : IsQueue now next ps) where
         (λ (x : (i ≡ length ps) × (idle_place ≡ a)). false_true (ap (λ (z : QueuePlace). z.has_ticket) x.1 ∙ da))
         (at_added ps idle_place i a ea);
     has_ticket = each_added (λ (z : QueuePlace). z.has_ticket ≡ true → (now ≤ z.ticket) × (z.ticket < next)) ps idle_place (λ e. false_true e) q.has_ticket;
-    turn = each_added (λ (z : QueuePlace). z.turn ≡ true → (z.has_ticket ≡ true) × (z.ticket ≡ now)) ps idle_place (λ e. false_true e) q.turn;
-    out = each_added (λ (z : QueuePlace). z.out ≡ true → z.turn ≡ true) ps idle_place (λ e. false_true e) q.out;
+    is_turn = each_added (λ (z : QueuePlace). z.is_turn ≡ true → (z.has_ticket ≡ true) × (z.ticket ≡ now)) ps idle_place (λ e. false_true e) q.is_turn;
+    has_object = each_added (λ (z : QueuePlace). z.has_object ≡ true → z.is_turn ≡ true) ps idle_place (λ e. false_true e) q.has_object;
   }
 
   -- a ticket whose remainder is that of the one served is served

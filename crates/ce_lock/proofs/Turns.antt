@@ -85,10 +85,11 @@ module _ {O E F : Type 0} (m : Meanings O E F) (me me' : Me O (View O E)) (t : �
       -- what a turn with an entry makes of the view
       pub turn_made : {C R : Type 0} (X : Type 0) (stands : F → List E → E → Who → C → R → Type 0) (who : Who) (call : C) (reply : R) → who_of me.0.right ≡ who
           → (m.lawful (m.fixed y) (m.history y) → m.lawful (m.fixed y) (m.history z)) → length (m.history z) < 2 ^ 63 → m.whose e ≡ who → stands (m.fixed y) (m.history y) e who call reply
-          → (last : View O E) → last ≡ view_after_entry (view_with_seen me.0 (me.0.page.seen ++ took.missed_entries)) e → (result : Result R (C × X)) → result ≡ Ok reply → IsSeatTurn m stands me.0 last call result
-      turn_made X stands who call reply actor lawful short mine stand last is result result_is =
-          let all : m.history z ≡ last.page.seen = grown_is ∙ (ap (λ (l : List E). l ++ e ∷ []) acted_seen ∙ ap (λ (v : View O E). v.page.seen) (sym is)) in
-          subst (IsSeatTurn m stands me.0 last call) (sym result_is) record {
+          → (last : Me O (View O E)) → last.0 ≡ view_after_entry (view_with_seen me.0 (me.0.page.seen ++ took.missed_entries)) e → last.1 ≡ [] → (result : Result R (C × X)) → result ≡ Ok reply → IsSeatTurn m stands me last call result
+      turn_made X stands who call reply actor lawful short mine stand last is hand result result_is =
+          let all : m.history z ≡ last.0.page.seen = grown_is ∙ (ap (λ (l : List E). l ++ e ∷ []) acted_seen ∙ ap (λ (v : View O E). v.page.seen) (sym is)) in
+          subst (IsSeatTurn m stands me last call) (sym result_is) record {
+            hand = hand;
             opening = took.opening;
             missed_entries = took.missed_entries;
             opening_is = took.opening_is;
@@ -130,9 +131,10 @@ module _ {O E F : Type 0} (m : Meanings O E F) (me me' : Me O (View O E)) (t : �
 
   -- what a refused turn makes of the view
   pub turn_refused : {C R X : Type 0} (stands : F → List E → E → Who → C → R → Type 0) (call : C) (back : C × X) → length (me.0.page.seen ++ took.missed_entries) < 2 ^ 63 → back.0 ≡ call
-      → (last : View O E) → last ≡ view_with_seen me.0 (me.0.page.seen ++ took.missed_entries) → (result : Result R (C × X)) → result ≡ Err back → IsSeatTurn m stands me.0 last call result
-  turn_refused stands call back short same last is result result_is = let all : me.0.page.seen ++ took.missed_entries ≡ last.page.seen = ap (λ (v : View O E). v.page.seen) (sym is) in
-      subst (IsSeatTurn m stands me.0 last call) (sym result_is) record {
+      → (last : Me O (View O E)) → last.0 ≡ view_with_seen me.0 (me.0.page.seen ++ took.missed_entries) → last.1 ≡ [] → (result : Result R (C × X)) → result ≡ Err back → IsSeatTurn m stands me last call result
+  turn_refused stands call back short same last is hand result result_is = let all : me.0.page.seen ++ took.missed_entries ≡ last.0.page.seen = ap (λ (v : View O E). v.page.seen) (sym is) in
+      subst (IsSeatTurn m stands me last call) (sym result_is) record {
+        hand = hand;
         opening = took.opening;
         missed_entries = took.missed_entries;
         opening_is = took.opening_is;
@@ -151,10 +153,10 @@ module _ {O E F : Type 0} (m : Meanings O E F) where
 module _ {O E F : Type 0} (m : Meanings O E F) {C R X : Type 0} (stands : F → List E → E → Who → C → R → Type 0) where
   -- a seat stays sound where no more of its view is another than what it has seen and made
   sound_after : (result : Result R (C × X)) (who : Who) (me me' : Me O (View O E)) (call : C) (seen mine : List E)
-      → IsSoundSeat m who me → IsSeatTurn m stands me.0 me'.0 call result → me'.1 ≡ []
+      → IsSoundSeat m who me → IsSeatTurn m stands me me' call result
       → me'.0 ≡ record me.0 { page = record me.0.page { seen = seen; mine = mine } } → entries_of m.whose (who_of me.0.right) seen ≡ me.0.page.earlier ++ mine → IsSoundSeat m who me'
-  sound_after result who me me' call seen mine s t hand is own = let same : t.opening ≡ s.opening = cc (t.opening_is, s.opening_is) in
-      subst (IsSoundSeat m who) (λ k. (sym is k, sym hand k)) record {
+  sound_after result who me me' call seen mine s t is own = let same : t.opening ≡ s.opening = cc (t.opening_is, s.opening_is) in
+      subst (IsSoundSeat m who) (λ k. (sym is k, sym t.hand k)) record {
         opening = s.opening;
         opening_is = s.opening_is;
         place = s.place;
@@ -171,16 +173,16 @@ module _ {O E F : Type 0} (m : Meanings O E F) {C R X : Type 0} (stands : F → 
       }
 
   -- a turn of a sound seat leaves it sound
-  pub sound_turn : (result : Result R (C × X)) (who : Who) (me me' : Me O (View O E)) (call : C) → IsSoundSeat m who me → IsSeatTurn m stands me.0 me'.0 call result → me'.1 ≡ [] → IsSoundSeat m who me'
-  sound_turn (Ok reply) who me me' call s t hand = let a = t.answered in sound_after (Ok reply) who me me' call _ _ s t hand a.1
+  pub sound_turn : (result : Result R (C × X)) (who : Who) (me me' : Me O (View O E)) (call : C) → IsSoundSeat m who me → IsSeatTurn m stands me me' call result → IsSoundSeat m who me'
+  sound_turn (Ok reply) who me me' call s t = let a = t.answered in sound_after (Ok reply) who me me' call _ _ s t a.1
       (own_mine m.whose (who_of me.0.right) (me.0.page.seen ++ t.missed_entries) a.0 (of_actor m.whose (who_of me.0.right) a.0 a.2)
       ∙ (ap (λ (l : List E). l ++ a.0 ∷ []) (own_still m who me t.missed_entries s t.missable) ∙ append_assoc me.0.page.earlier me.0.page.mine (a.0 ∷ [])))
-  sound_turn (Err back) who me me' call s t hand = sound_after (Err back) who me me' call _ _ s t hand t.answered.0 (own_still m who me t.missed_entries s t.missable)
+  sound_turn (Err back) who me me' call s t = sound_after (Err back) who me me' call _ _ s t t.answered.0 (own_still m who me t.missed_entries s t.missable)
 
   -- a turn is one of the same book
-  pub turn_opening : (result : Result R (C × X)) (v w : View O E) (call : C) → IsSeatTurn m stands v w call result → w.page.opening ≡ v.page.opening
-  turn_opening (Ok reply) v w call t = ap (λ (x : View O E). x.page.opening) t.answered.1
-  turn_opening (Err back) v w call t = ap (λ (x : View O E). x.page.opening) t.answered.0
+  pub turn_opening : (result : Result R (C × X)) (me me' : Me O (View O E)) (call : C) → IsSeatTurn m stands me me' call result → me'.0.page.opening ≡ me.0.page.opening
+  turn_opening (Ok reply) me me' call t = ap (λ (x : View O E). x.page.opening) t.answered.1
+  turn_opening (Err back) me me' call t = ap (λ (x : View O E). x.page.opening) t.answered.0
 
 -- what a sound seat has seen is known
 pub known_of : {O E F : Type 0} (m : Meanings O E F) (who : Who) (me : Me O (View O E)) (o : O) (z : TableId) → IsSoundSeat m who me → me.0.page.opening ≡ Some o → IsKnown m o (z, me.0)

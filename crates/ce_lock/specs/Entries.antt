@@ -29,4 +29,5 @@ module _ {E : Type 0} (whose : E → Who) where
 
   -- the entry is of another family, or of another actor and not alone
   abbrev pub IsForeignEntry : (E → Bool) → Who → E → Type 0
-  IsForeignEntry alone who e = ((whose e).family ≢ who.family) ⊎ (((whose e).actor ≢ who.actor) × (alone e ≡ false))
+  IsForeignEntry alone who e =
+      ((whose e).family ≢ who.family) ⊎ (((whose e).actor ≢ who.actor) × (alone e ≡ false))

@@ -10,5 +10,7 @@ pub record Meanings (O E F : Type 0) : Type 1 where
   pub whose : E → Who
   pub alone : E → Bool
 
-abbrev pub meanings : {O E F : Type 0} → (O → F) → (O → List E) → (F → List E → Type 0) → (E → Who) → (E → Bool) → Meanings O E F
-meanings fixed history lawful whose alone = record { fixed = fixed; history = history; lawful = lawful; whose = whose; alone = alone }
+abbrev pub meanings : {O E F : Type 0} → (O → F) → (O → List E) → (F → List E → Type 0) → (E → Who)
+    → (E → Bool) → Meanings O E F
+meanings fixed history lawful whose alone =
+    record { fixed = fixed; history = history; lawful = lawful; whose = whose; alone = alone }

@@ -11,16 +11,16 @@ use std::marker::PhantomData;
 use std::snapshot::Snapshot;
 
 /// What a book is told once.
-pub struct About<O> {
+pub struct BookKey<O> {
     /// The object that it is made of.
     pub opening: Snapshot<O>,
     /// How many families there are.
     pub families: u32,
 }
 
-impl<O> Drop for About<O> {
+impl<O> Drop for BookKey<O> {
     fn drop(self) {
-        let About {
+        let BookKey {
             opening,
             families: _,
         } = self;
@@ -33,22 +33,22 @@ pub struct InOneOrder<O> {
     object: PhantomData<O>,
 }
 
-impl<O: Kept> TableRule<O, View<O, O::Entry>, About<O>> for InOneOrder<O> {
+impl<O: Kept> TableRule<O, View<O, O::Entry>, BookKey<O>> for InOneOrder<O> {
     ghost use Rattle.ce_lock.specs.Meanings.{meanings};
     ghost use Rattle.ce_lock.specs.OneOrder.{IsBookInOrder};
     ghost use Rattle.ce_lock.specs.Telling.{first_view};
 
-    ghost holds = { λ about. IsBookInOrder
+    ghost holds = { λ book_key. IsBookInOrder
         (meanings O.fixed O.history O.lawful O.whose O.alone_entry)
-        about.opening.value about.families };
+        book_key.opening.value book_key.families };
 
-    ghost first = { λ about. first_view about.opening.value };
+    ghost first = { λ book_key. first_view book_key.opening.value };
 }
 
 /// The table of a book.
 #[derive(Drop)]
 pub struct Board<O: Kept> {
-    pub table: Table<O, View<O, O::Entry>, About<O>, InOneOrder<O>, Global>,
+    pub table: Table<O, View<O, O::Entry>, BookKey<O>, InOneOrder<O>, Global>,
     ghost sized: { IsSized table.shared.table_id },
 }
 

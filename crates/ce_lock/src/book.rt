@@ -6,8 +6,8 @@ ghost use Rattle.ce_model.specs.Lists.{IsFront};
 ghost use Rattle.ce_lock.specs.declared.who.Who.{Who};
 ghost use Rattle.ce_lock.specs.Entries.{ids_without, entries_of};
 ghost use Rattle.ce_lock.specs.Meanings.{meanings};
-ghost use Rattle.ce_lock.specs.Telling.{copy};
-ghost use Rattle.ce_lock.specs.Sitting.{IsOf, IsSameSeat, IsKnown, IsSeatBehind, who, seen_history, earlier, mine, out};
+ghost use Rattle.ce_lock.specs.Telling.{view_copy};
+ghost use Rattle.ce_lock.specs.Sitting.{IsSeatOf, IsSameSeat, IsKnown, IsSeatBehind, who, seen_history, earlier, mine, out};
 
 use crate::board::{Board, Chair, ChairAtBoard};
 use crate::kept::Kept;
@@ -45,10 +45,10 @@ impl<O: Kept> Model for Book<O> {
 impl<O: Kept> Book<O> {
     /// Gives `actor` a seat of its own in the head's family, which has seen what the head has.
     pub fn split(&self, head: &mut Seat<O>, actor: u32) -> Seat<O>
-        requires of_book { IsOf self.now head.old }
+        requires of_book { IsSeatOf self.now head.old }
         requires head { (who head.old).actor ≡ HOST }
         requires actor { (actor ≢ HOST) × ¬ Contains (out head.old) actor }
-        ensures worker { IsOf self.now result }
+        ensures worker { IsSeatOf self.now result }
         ensures actor { who result ≡ record { family = (who head.old).family; actor = actor } }
         ensures seen { seen_history result ≡ seen_history head.old }
         ensures fresh { mine result ≡ [] }
@@ -82,20 +82,20 @@ impl<O: Kept> Book<O> {
         seat: &mut Seat<O>,
         call: O::Call,
     ) -> Result<O::Reply, (O::Call, NoMemory)>
-        requires of_book { IsOf self.now seat.old }
+        requires of_book { IsSeatOf self.now seat.old }
         requires fits { O.fits (O.fixed self.now.opening) (seen_history seat.old) (who seat.old)
             call }
         requires alone { IsTrue (O.alone call)
             → ((who seat.old).actor ≡ HOST) × (out seat.old ≡ []) }
         ensures same { IsSameSeat seat.old seat.new }
         ensures out { out seat.new ≡ out seat.old }
-        ensures answered { IfOk result (λ reply. (before : List O.Entry) × (entry : O.Entry)
+        ensures answered { IfOk result (λ reply. (past : List O.Entry) × (entry : O.Entry)
             × IsSeatBehind (meanings O.fixed O.history O.lawful O.whose O.alone_entry) seat.old
-            before
-            × (seen_history seat.new ≡ before ++ entry ∷ [])
+            past
+            × (seen_history seat.new ≡ past ++ entry ∷ [])
             × (mine seat.new ≡ mine seat.old ++ entry ∷ [])
-            × O.stands (O.fixed self.now.opening) before entry (who seat.old) call reply) }
-        ensures refused { IfErr result (λ back. (back.0 ≡ call)
+            × O.stands (O.fixed self.now.opening) past entry (who seat.old) call reply) }
+        ensures refused { IfErr result (λ refusal. (refusal.0 ≡ call)
             × IsFront (seen_history seat.old) (seen_history seat.new)
             × (mine seat.new ≡ mine seat.old)) }
         ensures known { IsKnown (meanings O.fixed O.history O.lawful O.whose O.alone_entry)
@@ -111,7 +111,7 @@ impl<O: Kept> Book<O> {
 
     /// Makes both seats see what either saw.
     pub fn meet(&self, a: &mut Seat<O>, b: &mut Seat<O>)
-        requires of_book { IsOf self.now a.old × IsOf self.now b.old }
+        requires of_book { IsSeatOf self.now a.old × IsSeatOf self.now b.old }
         ensures same_a { IsSameSeat a.old a.new }
         ensures same_b { IsSameSeat b.old b.new }
         ensures same_seen { seen_history a.new ≡ seen_history b.new }
@@ -132,7 +132,7 @@ impl<O: Kept> Book<O> {
 
     /// What is known of each seat of the book.
     pub fn knows(&self, seat: &Seat<O>)
-        requires of_book { IsOf self.now seat.now }
+        requires of_book { IsSeatOf self.now seat.now }
         ensures known { IsKnown (meanings O.fixed O.history O.lawful O.whose O.alone_entry)
             self.now.opening seat.now }
     {
@@ -141,24 +141,24 @@ impl<O: Kept> Book<O> {
     }
 
     /// Makes the second seat see what the first has seen.
-    fn show(&self, from: &mut Seat<O>, to: &mut Seat<O>)
-        requires of_book { IsOf self.now from.old × IsOf self.now to.old }
-        ensures from { from.new ≡ from.old }
-        ensures same { IsSameSeat to.old to.new }
-        ensures longer { (seen_history to.new ≡ seen_history to.old)
-            ⊎ (seen_history to.new ≡ seen_history from.old) }
-        ensures begins_to { IsFront (seen_history to.old) (seen_history to.new) }
-        ensures begins_from { IsFront (seen_history from.old) (seen_history to.new) }
-        ensures rest { (mine to.new ≡ mine to.old) × (out to.new ≡ out to.old) }
+    fn show(&self, teacher: &mut Seat<O>, learner: &mut Seat<O>)
+        requires of_book { IsSeatOf self.now teacher.old × IsSeatOf self.now learner.old }
+        ensures teacher { teacher.new ≡ teacher.old }
+        ensures same { IsSameSeat learner.old learner.new }
+        ensures longer { (seen_history learner.new ≡ seen_history learner.old)
+            ⊎ (seen_history learner.new ≡ seen_history teacher.old) }
+        ensures begins_to { IsFront (seen_history learner.old) (seen_history learner.new) }
+        ensures begins_from { IsFront (seen_history teacher.old) (seen_history learner.new) }
+        ensures rest { (mine learner.new ≡ mine learner.old) × (out learner.new ≡ out learner.old) }
         ensures known { IsKnown (meanings O.fixed O.history O.lawful O.whose O.alone_entry)
-            self.now.opening to.new }
+            self.now.opening learner.new }
         ensures known_from { IsKnown (meanings O.fixed O.history O.lawful O.whose O.alone_entry)
-            self.now.opening from.new }
+            self.now.opening teacher.new }
     {
-        let copy = self.copy_of(from);
+        let copy = self.copy_of(teacher);
         let mut pair = ChairAtBoard {
             board: &self.board,
-            chair: &mut to.chair,
+            chair: &mut learner.chair,
         };
         pair.meet_copy(copy);
         pair.settle();
@@ -166,10 +166,10 @@ impl<O: Kept> Book<O> {
 
     /// A raw seat that knows what this one has seen, and may do nothing.
     pub(crate) fn copy_of(&self, seat: &mut Seat<O>) -> Chair<O>
-        requires of_book { IsOf self.now seat.old }
+        requires of_book { IsSeatOf self.now seat.old }
         ensures seat { seat.new ≡ seat.old }
         ensures table { result.table_id ≡ self.now.table }
-        ensures copied { result.me ≡ (copy seat.old.1, []) }
+        ensures copied { result.me ≡ (view_copy seat.old.1, []) }
         ensures known { IsKnown (meanings O.fixed O.history O.lawful O.whose O.alone_entry)
             self.now.opening seat.new }
     {
@@ -182,7 +182,7 @@ impl<O: Kept> Book<O> {
 
     /// Takes an actor's seat back into its head's, which sees what the actor saw.
     pub fn join(&self, head: &mut Seat<O>, worker: Seat<O>)
-        requires of_book { IsOf self.now head.old × IsOf self.now worker }
+        requires of_book { IsSeatOf self.now head.old × IsSeatOf self.now worker }
         requires head { (who head.old).actor ≡ HOST }
         requires family { (who worker).family ≡ (who head.old).family }
         requires out { Contains (out head.old) (who worker).actor }

@@ -4,7 +4,7 @@ ghost use Rattle.std.specs.List.{AllByRecursion, Contains};
 ghost use Rattle.ce_model.specs.declared.topology.TheConstants.{HOST};
 ghost use Rattle.ce_lock.specs.declared.who.Who.{Who};
 ghost use Rattle.ce_lock.specs.Meanings.{meanings};
-ghost use Rattle.ce_lock.specs.Telling.{idle_place, no_actor, last_of, IsLeft};
+ghost use Rattle.ce_lock.specs.Telling.{idle_place, no_actor, joined_head_of, IsClosingObject};
 ghost use Rattle.ce_lock.specs.Sitting.{IsHeadIn, IsWholeSeat, IsSoundSeat, who};
 
 use crate::board::{Board, Chair, ChairAtBoard};
@@ -41,7 +41,8 @@ impl<O: Kept> Book<O> {
             → Contains (map (λ s. (who s).family) heads.items) f }
         ensures chair { result.table_id ≡ self.now.table }
         ensures live { IsFalse result.me.0.right.is_spent }
-        ensures joined_heads { result.me.0.page.joined_heads ≡ map (λ s. last_of s.1) heads.items }
+        ensures joined_heads { result.me.0.page.joined_heads
+            ≡ map (λ s. joined_head_of s.1) heads.items }
     {
         // It reads the book, so that its invariant is at hand.
         let _ = &self.board;
@@ -70,7 +71,7 @@ impl<O: Kept> Book<O> {
             × (closer.new.id ≡ closer.old.id) }
         ensures copied { (closer.new.me.0.place ≡ idle_place) × (closer.new.me.0.right ≡ no_actor) }
         ensures joined_heads { closer.new.me.0.page.joined_heads
-            ≡ last_of head.me.0 ∷ closer.old.me.0.page.joined_heads }
+            ≡ joined_head_of head.me.0 ∷ closer.old.me.0.page.joined_heads }
     {
         let mut pair = ChairAtBoard {
             board: &self.board,
@@ -87,11 +88,11 @@ fn take_object<O: Kept>(board: Board<O>, closer: Chair<O>) -> O
     requires live { IsFalse closer.me.0.right.is_spent }
     requires all { (f : ℕ) → f < board.table.shared.key.families
         → Contains (map (λ l. l.family) closer.me.0.page.joined_heads) f }
-    ensures { IsLeft (meanings O.fixed O.history O.lawful O.whose O.alone_entry)
+    ensures { IsClosingObject (meanings O.fixed O.history O.lawful O.whose O.alone_entry)
         board.table.shared.key.opening.value closer.me.0.page.joined_heads result }
 {
-    let mut closed = board.table.close_with(closer);
-    let object = closed.take(0);
-    closed.free();
+    let mut closed_table = board.table.close_with(closer);
+    let object = closed_table.take(0);
+    closed_table.free();
     object
 }

@@ -63,7 +63,7 @@ pub trait Kept: Sized {
         ensures lawful { IfOk result (λ _. lawful (fixed self.old) (history self.old)
             → lawful (fixed self.old) (history self.new)) }
         ensures few { IfOk result (λ _. length (history self.new) < HISTORY_LIMIT) }
-        ensures refused { IfErr result (λ back. (self.new ≡ self.old) × (back.0 ≡ call)) };
+        ensures refused { IfErr result (λ refusal. (self.new ≡ self.old) × (refusal.0 ≡ call)) };
 
     // The empty history is lawful.
     ghost empty_is_lawful: { (f : Fixed) → lawful f [] };
@@ -73,15 +73,15 @@ pub trait Kept: Sized {
         → lawful f (front ++ rest) → lawful f front };
 
     // An entry is that of the actor who called, and alone where the call is.
-    ghost stands_for: { (f : Fixed) (before : List Self.Entry) (entry : Self.Entry) (who : Who)
+    ghost stands_for: { (f : Fixed) (past : List Self.Entry) (entry : Self.Entry) (who : Who)
         (call : Self.Call) (reply : Self.Reply)
-        → stands f before entry who call reply
+        → stands f past entry who call reply
         → (whose entry ≡ who) × (alone_entry entry ≡ alone call) };
 
     // What fits still fits after one more entry of another family, or of another actor that is not
     // alone.
-    ghost still_fits: { (f : Fixed) (before : List Self.Entry) (entry : Self.Entry) (who : Who)
+    ghost still_fits: { (f : Fixed) (past : List Self.Entry) (entry : Self.Entry) (who : Who)
         (call : Self.Call)
-        → lawful f (before ++ entry ∷ []) → fits f before who call
-        → IsForeignEntry whose alone_entry who entry → fits f (before ++ entry ∷ []) who call };
+        → lawful f (past ++ entry ∷ []) → fits f past who call
+        → IsForeignEntry whose alone_entry who entry → fits f (past ++ entry ∷ []) who call };
 }

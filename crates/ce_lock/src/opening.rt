@@ -4,7 +4,7 @@ ghost use Rattle.ce_lock.specs.Meanings.{meanings};
 ghost use Rattle.ce_lock.specs.Telling.{first_view};
 ghost use Rattle.ce_lock.specs.Sitting.{IsNewHead};
 
-use crate::board::{About, Board, Chair, ChairAtBoard};
+use crate::board::{Board, BookKey, Chair, ChairAtBoard};
 use crate::book::Book;
 use crate::kept::Kept;
 use crate::seat::Seat;
@@ -29,7 +29,7 @@ impl<O: Kept> Book<O> {
         ensures heads { IfOk result (λ pair. (k : ℕ) (d : _) → k < families
             → IsNewHead (meanings O.fixed O.history O.lawful O.whose O.alone_entry)
             pair.0 k (slice_index_or pair.1.items k d)) }
-        ensures refused { IfErr result (λ back. back.0 ≡ object) }
+        ensures refused { IfErr result (λ refusal. refusal.0 ≡ object) }
     {
         let Ok(heads) = Vec::with_capacity(alloc, families as usize) else {
             return Err((object, NoMemory));
@@ -47,9 +47,9 @@ impl<O: Kept> Book<O> {
             × (pair.0.families ≡ families)) }
         ensures first { IfOk result (λ pair. (pair.1.table_id ≡ pair.0.table)
             × (pair.1.me ≡ (first_view object, []))) }
-        ensures refused { IfErr result (λ back. back.0 ≡ object) }
+        ensures refused { IfErr result (λ refusal. refusal.0 ≡ object) }
     {
-        let about = About {
+        let book_key = BookKey {
             opening: Snapshot::of(&object),
             families,
         };
@@ -57,7 +57,7 @@ impl<O: Kept> Book<O> {
             return Err((object, NoMemory));
         };
         slots.push_reserved(object);
-        match Table::new(alloc, &[0, 0, 0], slots, &about) {
+        match Table::new(alloc, &[0, 0, 0], slots, &book_key) {
             Ok((table, first)) => {
                 let board = Board { table };
                 Ok((Book { board }, first))

@@ -1,7 +1,7 @@
 //! What each kind of step tells, and how views are cut in two and joined.
 ghost use Rattle.std.specs.Prelude.{ℕ};
 ghost use Rattle.ce_lock.specs.Meanings.{meanings};
-ghost use Rattle.ce_lock.specs.Telling.{HasDrawn, HasLookedAtTicket, HasTakenObject, HasCommitted, HasGivenObject, HasLeft, IsSettled, copy, view_after_making, next_head, view_with_out, actor_view, view_after_meeting, view_after_joining, view_after_closing, spent_view};
+ghost use Rattle.ce_lock.specs.Telling.{HasDrawn, HasLookedAtTicket, HasTakenObject, HasCommitted, HasGivenObject, HasLeftTurn, IsSettled, view_copy, view_after_making, next_head, view_with_out, actor_view, view_after_meeting, view_after_joining, view_after_closing, spent_view};
 
 use crate::kept::Kept;
 use crate::view::View;
@@ -30,37 +30,37 @@ pub struct Leave;
 pub struct Settle;
 
 impl<O: Kept> Play<O, View<O, O::Entry>> for Draw {
-    ghost then = { λ _ me found after. HasDrawn me found after };
+    ghost then = { λ _ me word next_me. HasDrawn me word next_me };
 }
 
 impl<O: Kept> Play<O, View<O, O::Entry>> for Look {
-    ghost then = { λ _ me found after. HasLookedAtTicket me found after };
+    ghost then = { λ _ me word next_me. HasLookedAtTicket me word next_me };
 }
 
 impl<O: Kept> Play<O, View<O, O::Entry>> for Take {
-    ghost then = { λ _ me _ after. HasTakenObject
+    ghost then = { λ _ me _ next_me. HasTakenObject
         (meanings O.fixed O.history O.lawful O.whose O.alone_entry)
-        me after };
+        me next_me };
 }
 
 impl<O: Kept> Play<O, View<O, O::Entry>> for Commit {
-    ghost then = { λ _ me _ after. HasCommitted (meanings O.fixed O.history O.lawful O.whose
+    ghost then = { λ _ me _ next_me. HasCommitted (meanings O.fixed O.history O.lawful O.whose
         O.alone_entry)
-        me after };
+        me next_me };
 }
 
 impl<O: Kept> Play<O, View<O, O::Entry>> for Give {
-    ghost then = { λ _ me _ after. HasGivenObject me after };
+    ghost then = { λ _ me _ next_me. HasGivenObject me next_me };
 }
 
 impl<O: Kept> Play<O, View<O, O::Entry>> for Leave {
-    ghost then = { λ _ me _ after. HasLeft me after };
+    ghost then = { λ _ me _ next_me. HasLeftTurn me next_me };
 }
 
 impl<O: Kept> Play<O, View<O, O::Entry>> for Settle {
-    ghost then = { λ _ me _ after. IsSettled (meanings O.fixed O.history O.lawful O.whose
+    ghost then = { λ _ me _ next_me. IsSettled (meanings O.fixed O.history O.lawful O.whose
         O.alone_entry)
-        me after };
+        me next_me };
 }
 
 /// A copy of what a seat has seen comes.
@@ -86,7 +86,7 @@ impl Named for Brand {
 impl<O: Kept> Split<View<O, O::Entry>> for Copying {
     ghost left = { λ v. v };
 
-    ghost right = { λ v. copy v };
+    ghost right = { λ v. view_copy v };
 }
 
 impl<O: Kept> Split<View<O, O::Entry>> for NextHead {

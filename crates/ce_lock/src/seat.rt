@@ -12,7 +12,7 @@ use ce_model::HOST;
 use std::marker::Model;
 
 /// A right to call, and what its holder has seen of the history. Contracts see it as its table and
-/// its view; `who`, `seen`, `mine`, `earlier` and `out` of `specs/Sitting.antt` read these.
+/// its view; `who`, `seen_history`, `mine`, `earlier` and `out` of `specs/Sitting.antt` read these.
 pub struct Seat<O: Kept> {
     pub(crate) who: Who,
     pub(crate) chair: Chair<O>,
@@ -20,9 +20,9 @@ pub struct Seat<O: Kept> {
 
 impl<O: Kept> Model for Seat<O> {
     ghost use Rattle.ce_lock.specs.Meanings.{meanings};
-    ghost use Rattle.ce_lock.specs.Sitting.{Sitting, IsSoundSeat};
+    ghost use Rattle.ce_lock.specs.Sitting.{SeatFacts, IsSoundSeat};
 
-    ghost Value = { Sitting O O.Entry };
+    ghost Value = { SeatFacts O O.Entry };
 
     ghost view = { λ s. (s.chair.table_id, s.chair.me.0) };
 

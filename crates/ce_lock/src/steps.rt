@@ -1,11 +1,12 @@
 //! The kinds of atomic step, one function each.
 ghost use Rattle.std.specs.Prelude.{◌≡◌, ◌≢◌, ℕ, ◌+◌, ◌<◌, [], ◌∷◌, ◌++◌, length, Some, IsTrue, IsFalse};
 ghost use Rattle.std.specs.List.{Contains};
+ghost use Rattle.atomic_table.specs.Table.{Joins};
 ghost use Rattle.ce_model.specs.declared.topology.TheConstants.{HOST};
 ghost use Rattle.ce_lock.specs.declared.limits.TheConstants.{HISTORY_LIMIT};
 ghost use Rattle.ce_lock.specs.Meanings.{meanings};
-ghost use Rattle.ce_lock.specs.OneOrder.{who_of};
-ghost use Rattle.ce_lock.specs.Telling.{idle_place, place_waiting, served_place, place_holding, HasDrawn, HasLookedAtTicket, HasTakenObject, HasCommitted, HasGivenObject, HasLeft, IsSettled, no_actor, copy, view_after_making, next_head, view_with_out, actor_view, view_after_meeting, view_after_joining, view_after_closing};
+ghost use Rattle.ce_lock.specs.OneOrder.{IsBookInOrder, who_of};
+ghost use Rattle.ce_lock.specs.Telling.{idle_place, place_waiting, served_place, place_holding, HasDrawn, HasLookedAtTicket, HasTakenObject, HasCommitted, HasGivenObject, HasLeftTurn, IsSettled, no_actor, view_copy, view_after_making, next_head, view_with_out, actor_view, view_after_meeting, view_after_joining, view_after_closing};
 ghost use Rattle.ce_lock.specs.Sitting.{AreIdle};
 ghost use Rattle.ce_lock.specs.Chairs.{IsSameChair};
 
@@ -15,6 +16,8 @@ use crate::plays::{
     Closing, Commit, Copying, Draw, Give, Leave, Look, Meeting, Named, NextHead, Sending, Settle,
     Take, TakingBack,
 };
+use crate::view::View;
+use atomic_table::Join;
 
 /// The word of the next ticket.
 const TICKET: usize = 0;
@@ -97,7 +100,7 @@ impl<'a, O: Kept> ChairAtBoard<'a, O> {
     pub fn leave(&mut self)
         requires turn { (t : ℕ) × (self.old.chair.now.me.0.place ≡ served_place t) }
         ensures same { IsSameChair self.old self.new }
-        ensures left { HasLeft self.old.chair.now.me self.new.chair.now.me }
+        ensures left { HasLeftTurn self.old.chair.now.me self.new.chair.now.me }
     {
         self.board
             .table
@@ -123,7 +126,7 @@ impl<'a, O: Kept> ChairAtBoard<'a, O> {
         ensures same { IsSameChair self.old self.new
             × (self.new.chair.now.me ≡ self.old.chair.now.me) }
         ensures made { (result.table_id ≡ self.old.chair.now.table_id)
-            × (result.me ≡ (copy self.old.chair.now.me.0, [])) }
+            × (result.me ≡ (view_copy self.old.chair.now.me.0, [])) }
     {
         self.board.table.shared.split_seat::<Copying>(self.chair)
     }
@@ -169,10 +172,7 @@ impl<'a, O: Kept> ChairAtBoard<'a, O> {
         ensures met { self.new.chair.now.me
             ≡ (view_after_meeting self.old.chair.now.me.0 other.me.0, self.old.chair.now.me.1) }
     {
-        self.board
-            .table
-            .shared
-            .join_seat::<Meeting>(self.chair, other);
+        self.join::<Meeting>(other);
     }
 
     /// Joins the seat of an actor into its head's.
@@ -187,10 +187,7 @@ impl<'a, O: Kept> ChairAtBoard<'a, O> {
         ensures taken { self.new.chair.now.me
             ≡ (view_after_joining self.old.chair.now.me.0 other.me.0, self.old.chair.now.me.1) }
     {
-        self.board
-            .table
-            .shared
-            .join_seat::<TakingBack>(self.chair, other);
+        self.join::<TakingBack>(other);
     }
 
     /// Joins the seat of a head with nobody out into the copy that closes the book.
@@ -204,9 +201,22 @@ impl<'a, O: Kept> ChairAtBoard<'a, O> {
         ensures closed { self.new.chair.now.me
             ≡ (view_after_closing self.old.chair.now.me.0 other.me.0, self.old.chair.now.me.1) }
     {
-        self.board
-            .table
-            .shared
-            .join_seat::<Closing>(self.chair, other);
+        self.join::<Closing>(other);
+    }
+
+    /// Joins a raw seat into this one, where the rule of the book allows it.
+    fn join<J: Join<View<O, O::Entry>>>(&mut self, other: Chair<O>)
+        requires idle { AreIdle self.old.chair.now other }
+        requires allowed { Joins
+            (IsBookInOrder (meanings O.fixed O.history O.lawful O.whose O.alone_entry)
+            self.old.board.now.table.shared.key.opening.value
+            self.old.board.now.table.shared.key.families)
+            self.old.chair.now.id self.old.chair.now.me.0 other.id other.me.0
+            (J.both self.old.chair.now.me.0 other.me.0) J.spent }
+        ensures same { IsSameChair self.old self.new }
+        ensures joined { self.new.chair.now.me
+            ≡ (J.both self.old.chair.now.me.0 other.me.0, self.old.chair.now.me.1) }
+    {
+        self.board.table.shared.join_seat::<J>(self.chair, other);
     }
 }

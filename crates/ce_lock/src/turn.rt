@@ -35,20 +35,20 @@ impl<'a, O: Kept> ChairAtBoard<'a, O> {
             ≡ (view_at self.old.chair.now.me.0 (served_place t), self.old.chair.now.me.1)) }
     {
         let board = self.board;
-        let mut woken = false;
+        let mut is_woken = false;
         for _ in rt.forever() {
             let serving = self.look();
             if serving == ticket {
                 return;
             }
-            if woken {
+            if is_woken {
                 board.table.shared.wake_one(SERVING);
             }
             board
                 .table
                 .shared
                 .park(rt, SERVING, (serving & 0xFFFF_FFFF) as u32);
-            woken = true;
+            is_woken = true;
         }
         unreachable!()
     }
@@ -75,9 +75,8 @@ impl<'a, O: Kept> ChairAtBoard<'a, O> {
         requires ready { IsReadySeat (meanings O.fixed O.history O.lawful O.whose O.alone_entry)
             O.fits O.alone request.who request.call self.old.chair.now.me }
         ensures same { IsSameChair self.old self.new }
-        ensures hand { self.new.chair.now.me.1 ≡ [] }
         ensures turn { IsSeatTurn (meanings O.fixed O.history O.lawful O.whose O.alone_entry)
-            O.stands self.old.chair.now.me.0 self.new.chair.now.me.0 request.call result }
+            O.stands self.old.chair.now.me self.new.chair.now.me request.call result }
     {
         self.take();
         match self.answer(request) {
@@ -86,9 +85,9 @@ impl<'a, O: Kept> ChairAtBoard<'a, O> {
                 self.give();
                 Ok(reply)
             }
-            Err(back) => {
+            Err(refusal) => {
                 self.give();
-                Err(back)
+                Err(refusal)
             }
         }
     }
@@ -104,9 +103,8 @@ impl<'a, O: Kept> ChairAtBoard<'a, O> {
         requires ready { IsReadySeat (meanings O.fixed O.history O.lawful O.whose O.alone_entry)
             O.fits O.alone request.who request.call self.old.chair.now.me }
         ensures same { IsSameChair self.old self.new }
-        ensures hand { self.new.chair.now.me.1 ≡ [] }
         ensures turn { IsSeatTurn (meanings O.fixed O.history O.lawful O.whose O.alone_entry)
-            O.stands self.old.chair.now.me.0 self.new.chair.now.me.0 request.call result }
+            O.stands self.old.chair.now.me self.new.chair.now.me request.call result }
     {
         let ticket = self.draw();
         self.wait_for_turn(rt, ticket);

@@ -7,9 +7,9 @@ pub struct QueuePlace {
     /// It has drawn a ticket.
     pub has_ticket: bool,
     /// It has seen that its turn has come.
-    pub turn: bool,
+    pub is_turn: bool,
     /// It has the object out of the slot.
-    pub out: bool,
+    pub has_object: bool,
     /// Its ticket, which counts on beyond 2^64.
     pub ticket: u64,
 }
@@ -31,7 +31,7 @@ pub struct Right {
 }
 
 /// A head that was joined away when the book was closed.
-pub struct Last<E> {
+pub struct JoinedHead<E> {
     /// The head's family.
     pub family: u32,
     /// The head's entries.
@@ -53,7 +53,7 @@ pub struct Page<O, E> {
     /// What the seats had seen that were joined into it since its last look.
     pub older_histories: LinkedList<LinkedList<E>>,
     /// The heads that were joined into it.
-    pub joined_heads: LinkedList<Last<E>>,
+    pub joined_heads: LinkedList<JoinedHead<E>>,
 }
 
 /// What a seat knows.

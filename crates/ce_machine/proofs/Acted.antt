@@ -1,29 +1,37 @@
--- What each call that fits makes of the machine, where its user holds a cube: of what is kept for each node, and of the cube.
-use Rattle.std.proofs.Common.{◌≡◌, ℕ, ◌+◌, Bool, true, false, not, ◌==◌, if◌then◌else◌, List, [], ◌∷◌, ◌++◌, find, Option, Some, None, refl, ap, sym, ◌∙◌}
+-- What each call that fits makes of the machine, where its user holds a cube: of what is kept for
+-- each node, and of the cube.
+use Rattle.std.proofs.Common.{◌≡◌, ℕ, ◌+◌, ◌^◌, ◌<◌, true, false, ◌==◌, if◌then◌else◌, List, [], ◌∷◌, find, Option, Some, None, refl, ap, sym, ◌∙◌}
 use Rattle.std.specs.List.{list_all}
 use Rattle.std.proofs.lemmas.Bool.{both_ways, eq-eqb, ne_eqb, eqb-true}
 use Rattle.ce_model.specs.declared.topology.TheConstants.{HOST}
 use Rattle.ce_model.specs.declared.topology.Place.{Place}
 use Rattle.ce_model.specs.declared.entry.Entry.{Entry}
 use Rattle.ce_model.specs.declared.entry.What.{What}
-use Rattle.ce_model.specs.declared.entry.What.TheVariants.{Arm, Look, HostTake, Spawn, Kill, Note, Take}
+use Rattle.ce_model.specs.declared.entry.What.TheVariants.{Arm, Look, HostTake, Note, Take}
 use Rattle.ce_model.specs.declared.entry.LookResult.{LookResult}
 use Rattle.ce_model.specs.declared.entry.TakeResult.{TakeResult}
-use Rattle.ce_model.specs.declared.entry.KillFound.{KillFound}
-use Rattle.ce_model.specs.declared.entry.KillFound.TheVariants.{Killed, Unused, Already}
-use Rattle.ce_model.specs.Parcels.{Parcel, Item, start, mail, kill, is_eligible}
-use Rattle.ce_model.specs.Node.{Call, take_call, spawn_call, kill_call, note_call, arm_call, look_call, mail_call}
+use Rattle.ce_model.specs.Limits.{process_count}
+use Rattle.ce_model.specs.Parcels.{Parcel, Item, mail, is_eligible}
+use Rattle.ce_model.specs.Node.{Call, take_call, note_call, arm_call, look_call, mail_call, is_place}
 use Rattle.ce_model.specs.Trace.{NodeRecord, taken_result, is_work, is_idle}
-use Rattle.ce_model.specs.Answers.{offer_of, is_among, kill_found, look_result_where, is_quiet_node, first_number}
+use Rattle.ce_model.specs.Answers.{offer_of, look_result_where, is_quiet_node, first_number}
 use Rattle.ce_model.specs.Subcubes.{node_of, is_inside}
-use Rattle.ce_model.specs.Machine.{MachineParts, IsMachine, HeldCube, MachineState, cube_held_by, nodes_of, without_taken, record_by, cube_after_entry, after, IsCallOf, IsLawful}
+use Rattle.ce_model.specs.Machine.{MachineParts, IsMachine, HeldCube, MachineState, cube_held_by, nodes_of, without_taken_item, record_after_entry, cube_after_entry, after, IsCallOf, IsLawful}
 use Rattle.ce_solo.proofs.Sending.{place_parts}
 use Rattle.ce_solo.proofs.Projection.Numbers.{IsPlaced, out_no_host, inside_no_host}
-use Rattle.ce_solo.proofs.Projection.Kinds.{entry_of}
+use Rattle.ce_model.specs.Literals.{entry_of}
+use Rattle.ce_machine.specs.declared.order.Order.{Order}
+use Rattle.ce_machine.specs.declared.order.Order.TheVariants.{Spawn, Kill}
+use Rattle.ce_machine.specs.Orders.{call_of_order, what_of_order, with_order}
 use Rattle.ce_machine.proofs.Changes.{next}
-use Rattle.ce_machine.proofs.Called.{placed-now, call-places, of-host, of-node}
-use Rattle.ce_machine.proofs.Answered.{place_of, answer_to, take-answer, spawn-answer, kill-answer, note-answer, arm-answer, look-answer, mail-answer}
-use Rattle.ce_machine.proofs.CallEffects.{with_call_mark, note-record, spawn-here, spawn-away, spawn-used, kill-here, kill-away, kill-unused, kill-already, take-own, take-other, arm-record, look-record, take_mail-record, note-cube, arm-cube, look-cube, spawn-cube, kill-cube, take-cube, no_mail-cube, mail-cube, call-each, call-cube}
+use Rattle.ce_machine.proofs.Called.{HasPlacesOf, placed-now, call-places, of-host, of-node}
+use Rattle.ce_machine.proofs.Answered.{place_of, answer_to, take-answer, order-answer, note-answer, arm-answer, look-answer, mail-answer}
+use Rattle.ce_machine.proofs.CallEffects.{with_call_mark, note-record, order-here, order-away, take-own, take-other, arm-record, look-record, take_mail-record, note-cube, arm-cube, look-cube, order-cube, take-cube, no_mail-cube, mail-cube, call-each, call-cube}
+
+-- an order names a place
+place_of_order : (d : ℕ) (order : Order) (pid : ℕ) (to : Place) → HasPlacesOf d (call_of_order order pid to) → is_place d to ≡ true
+place_of_order d (Spawn image) pid to is = is
+place_of_order d Kill pid to is = is
 
 module _ (parts : MachineParts) (machine : IsMachine parts) (h : List Entry) (lawful : IsLawful parts h) (user : ℕ) (cube : HeldCube) (holds : cube_held_by (after h) user ≡ Some cube)
     (actor : ℕ) where
@@ -48,7 +56,7 @@ module _ (parts : MachineParts) (machine : IsMachine parts) (h : List Entry) (la
     no_host_by : is_inside cube.grant.sub actor ≡ true → (actor == HOST) ≡ false
     no_host_by inside = inside_no_host parts.dim cube.grant placed actor inside
 
-    each : (what : What) → answered_as call ≡ what → (node : ℕ) → (node == HOST) ≡ false → (now what).node_record node ≡ record_by cube.grant.sub (entry_of user actor what) node (was node)
+    each : (what : What) → answered_as call ≡ what → (node : ℕ) → (node == HOST) ≡ false → (now what).node_record node ≡ record_after_entry cube.grant.sub (entry_of user actor what) node (was node)
     each what e node no_host = call-each parts machine h lawful user cube holds actor call fits what e node no_host
 
     whole : (what : What) → answered_as call ≡ what → cube_held_by (now what) user ≡ Some (cube_after_entry (entry_of user actor what) cube)
@@ -125,95 +133,42 @@ module _ (parts : MachineParts) (machine : IsMachine parts) (h : List Entry) (la
       pub mail_taken-cube : cube_held_by (next h (entry_of user actor (HostTake (Some parcel.number)))) user ≡ Some (record cube { mail = rest })
       mail_taken-cube = whole mail_call fits (HostTake (Some parcel.number)) mail_taken ∙ ap Some (mail-cube user actor cube parcel rest is_host first)
 
-  -- ---- spawns and kills: what is kept for the node of the process, and for each other
+  -- ---- orders: what is kept for the node of the process, and for each other
 
-  module _ (pid image : ℕ) (to : Place) (fits : IsCallOf parts h actor (spawn_call pid image to) cube) where
-    abbrev node_at : ℕ
-    node_at = node_of cube.grant.sub to.node
+  module _ (order : Order) (pid : ℕ) (to : Place) (fits : IsCallOf parts h actor (call_of_order order pid to) cube) where
+    abbrev order_at : ℕ
+    order_at = node_of cube.grant.sub to.node
 
-    at_no_host : (node_at == HOST) ≡ false
-    at_no_host = out_no_host parts.dim cube.grant (placed (spawn_call pid image to) fits) to.node
+    abbrev order_made : What
+    order_made = what_of_order order pid (place_of cube to) (was order_at)
 
-    spawned : (fresh : Bool) → not (is_among to.pid ((after h).node_record (node_of cube.grant.sub to.node)).spawned_ids) ≡ fresh
-        → answered_as (spawn_call pid image to) ≡ Spawn pid image (place_of cube to) fresh
-    spawned fresh e =
-        spawn-answer (after h) cube actor parts.dim (placed (spawn_call pid image to) fits) pid image to
-        (place_parts cube.grant.dim to (call-places parts machine h lawful user cube holds actor (spawn_call pid image to) fits)).0
-        ∙ ap (Spawn pid image (place_of cube to)) e
+    at_no_host : (order_at == HOST) ≡ false
+    at_no_host = out_no_host parts.dim cube.grant (placed (call_of_order order pid to) fits) to.node
 
-    module _ (fresh : Bool) (e : not (is_among to.pid ((after h).node_record (node_of cube.grant.sub to.node)).spawned_ids) ≡ fresh) where
-      pub spawned-as : answer_to (after h) cube actor (spawn_call pid image to) ≡ Spawn pid image (place_of cube to) fresh
-      spawned-as = spawned fresh e
+    pub order-place : (to.node < 2 ^ cube.grant.dim) × (to.pid < process_count)
+    order-place = place_parts cube.grant.dim to (place_of_order cube.grant.dim order pid to (call-places parts machine h lawful user cube holds actor (call_of_order order pid to) fits))
 
-      pub spawned-away : (node : ℕ) → (node == HOST) ≡ false → (node_of cube.grant.sub to.node == node) ≡ false
-          → (next h (entry_of user actor (Spawn pid image (place_of cube to) fresh))).node_record node ≡ with_call_mark actor node ((after h).node_record node)
-      spawned-away node no_host away =
-          each (spawn_call pid image to) fits (Spawn pid image (place_of cube to) fresh) (spawned fresh e) node no_host
-          ∙ spawn-away cube.grant.sub user actor node (was node) pid image (place_of cube to) fresh away
+    pub ordered-as : answer_to (after h) cube actor (call_of_order order pid to) ≡ what_of_order order pid (place_of cube to) ((after h).node_record (node_of cube.grant.sub to.node))
+    ordered-as = order-answer (after h) cube actor parts.dim (placed (call_of_order order pid to) fits) order pid to order-place.0
 
-      pub spawned-cube : cube_held_by (next h (entry_of user actor (Spawn pid image (place_of cube to) fresh))) user ≡ Some cube
-      spawned-cube =
-          whole (spawn_call pid image to) fits (Spawn pid image (place_of cube to) fresh) (spawned fresh e)
-          ∙ ap Some (spawn-cube user actor cube pid image (place_of cube to) fresh at_no_host)
+    pub ordered-here : let node = node_of cube.grant.sub to.node in
+        (next h (entry_of user actor (what_of_order order pid (place_of cube to) ((after h).node_record node)))).node_record node
+        ≡ with_call_mark actor node (with_order order to.pid ((after h).node_record node))
+    ordered-here =
+        each (call_of_order order pid to) fits order_made ordered-as order_at at_no_host
+        ∙ order-here cube.grant.sub user actor order_at (was order_at) order pid (place_of cube to) (eq-eqb order_at order_at refl)
 
-    pub spawned-here : not (is_among to.pid ((after h).node_record (node_of cube.grant.sub to.node)).spawned_ids) ≡ true
-        → let node = node_of cube.grant.sub to.node in let kept = (after h).node_record node in
-        (next h (entry_of user actor (Spawn pid image (place_of cube to) true))).node_record node
-        ≡ record (with_call_mark actor node kept) { waiting_items = kept.waiting_items ++ start to.pid image ∷ []; spawned_ids = kept.spawned_ids ++ to.pid ∷ [] }
-    spawned-here e =
-        each (spawn_call pid image to) fits (Spawn pid image (place_of cube to) true) (spawned true e) node_at at_no_host
-        ∙ spawn-here cube.grant.sub user actor node_at (was node_at) pid image (place_of cube to) (eq-eqb node_at node_at refl)
+    pub ordered-away : (node : ℕ) → (node == HOST) ≡ false → (node_of cube.grant.sub to.node == node) ≡ false
+        → (next h (entry_of user actor (what_of_order order pid (place_of cube to) ((after h).node_record (node_of cube.grant.sub to.node))))).node_record node
+        ≡ with_call_mark actor node ((after h).node_record node)
+    ordered-away node no_host away =
+        each (call_of_order order pid to) fits order_made ordered-as node no_host
+        ∙ order-away cube.grant.sub user actor node (was node) order pid (place_of cube to) (was order_at) away
 
-    pub spawn_used-each : not (is_among to.pid ((after h).node_record (node_of cube.grant.sub to.node)).spawned_ids) ≡ false → (node : ℕ) → (node == HOST) ≡ false
-        → (next h (entry_of user actor (Spawn pid image (place_of cube to) false))).node_record node ≡ with_call_mark actor node ((after h).node_record node)
-    spawn_used-each e node no_host =
-        each (spawn_call pid image to) fits (Spawn pid image (place_of cube to) false) (spawned false e) node no_host
-        ∙ spawn-used cube.grant.sub user actor node (was node) pid image (place_of cube to)
-
-  module _ (pid : ℕ) (to : Place) (fits : IsCallOf parts h actor (kill_call pid to) cube) where
-    abbrev kill_at : ℕ
-    kill_at = node_of cube.grant.sub to.node
-
-    kill_no_host : (kill_at == HOST) ≡ false
-    kill_no_host = out_no_host parts.dim cube.grant (placed (kill_call pid to) fits) to.node
-
-    module _ (found : KillFound) (e : kill_found ((after h).node_record (node_of cube.grant.sub to.node)) to.pid ≡ found) where
-      pub killed-as : answer_to (after h) cube actor (kill_call pid to) ≡ Kill pid (place_of cube to) found
-      killed-as =
-          kill-answer (after h) cube actor parts.dim (placed (kill_call pid to) fits) pid to
-          (place_parts cube.grant.dim to (call-places parts machine h lawful user cube holds actor (kill_call pid to) fits)).0
-          ∙ ap (Kill pid (place_of cube to)) e
-
-      pub killed-away : (node : ℕ) → (node == HOST) ≡ false → (node_of cube.grant.sub to.node == node) ≡ false
-          → (next h (entry_of user actor (Kill pid (place_of cube to) found))).node_record node ≡ with_call_mark actor node ((after h).node_record node)
-      killed-away node no_host away =
-          each (kill_call pid to) fits (Kill pid (place_of cube to) found) killed-as node no_host
-          ∙ kill-away cube.grant.sub user actor node (was node) pid (place_of cube to) found away
-
-      pub killed-cube : cube_held_by (next h (entry_of user actor (Kill pid (place_of cube to) found))) user ≡ Some cube
-      killed-cube =
-          whole (kill_call pid to) fits (Kill pid (place_of cube to) found) killed-as
-          ∙ ap Some (kill-cube user actor cube pid (place_of cube to) found kill_no_host)
-
-    pub killed-here : kill_found ((after h).node_record (node_of cube.grant.sub to.node)) to.pid ≡ Killed
-        → let node = node_of cube.grant.sub to.node in let kept = (after h).node_record node in
-        (next h (entry_of user actor (Kill pid (place_of cube to) Killed))).node_record node
-        ≡ record (with_call_mark actor node kept) { waiting_items = kept.waiting_items ++ kill to.pid ∷ []; killed_ids = kept.killed_ids ++ to.pid ∷ [] }
-    killed-here e =
-        each (kill_call pid to) fits (Kill pid (place_of cube to) Killed) (killed-as Killed e) kill_at kill_no_host
-        ∙ kill-here cube.grant.sub user actor kill_at (was kill_at) pid (place_of cube to) (eq-eqb kill_at kill_at refl)
-
-    pub kill_unused-each : kill_found ((after h).node_record (node_of cube.grant.sub to.node)) to.pid ≡ Unused → (node : ℕ) → (node == HOST) ≡ false
-        → (next h (entry_of user actor (Kill pid (place_of cube to) Unused))).node_record node ≡ with_call_mark actor node ((after h).node_record node)
-    kill_unused-each e node no_host =
-        each (kill_call pid to) fits (Kill pid (place_of cube to) Unused) (killed-as Unused e) node no_host
-        ∙ kill-unused cube.grant.sub user actor node (was node) pid (place_of cube to)
-
-    pub kill_already-each : kill_found ((after h).node_record (node_of cube.grant.sub to.node)) to.pid ≡ Already → (node : ℕ) → (node == HOST) ≡ false
-        → (next h (entry_of user actor (Kill pid (place_of cube to) Already))).node_record node ≡ with_call_mark actor node ((after h).node_record node)
-    kill_already-each e node no_host =
-        each (kill_call pid to) fits (Kill pid (place_of cube to) Already) (killed-as Already e) node no_host
-        ∙ kill-already cube.grant.sub user actor node (was node) pid (place_of cube to)
+    pub ordered-cube : cube_held_by (next h (entry_of user actor (what_of_order order pid (place_of cube to) ((after h).node_record (node_of cube.grant.sub to.node))))) user ≡ Some cube
+    ordered-cube =
+        whole (call_of_order order pid to) fits order_made ordered-as
+        ∙ ap Some (order-cube user actor cube order pid (place_of cube to) (was order_at) at_no_host)
 
   -- ---- takes
 
@@ -232,8 +187,8 @@ module _ (parts : MachineParts) (machine : IsMachine parts) (h : List Entry) (la
       pub took-as : answer_to (after h) cube actor (take_call asking dead poller) ≡ Take asking dead poller given
       took-as = take-answer (after h) cube actor asking dead poller no_host ∙ ap (Take asking dead poller) e
 
-      pub took-own : let kept = (after h).node_record actor in (next h (entry_of user actor (Take asking dead poller given))).node_record actor
-          ≡ record kept { waiting_items = without_taken (taken_result (Take asking dead poller given)) kept.waiting_items; mark = record { is_idle = is_idle given; asking = asking; dead = dead } }
+      pub took-own : let node_record = (after h).node_record actor in (next h (entry_of user actor (Take asking dead poller given))).node_record actor
+          ≡ record node_record { waiting_items = without_taken_item (taken_result (Take asking dead poller given)) node_record.waiting_items; mark = record { is_idle = is_idle given; asking = asking; dead = dead } }
       took-own =
           each call fits (Take asking dead poller given) took-as actor no_host
           ∙ take-own cube.grant.sub user actor actor (was actor) asking dead poller given (eq-eqb actor actor refl)

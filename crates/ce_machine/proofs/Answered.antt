@@ -1,20 +1,23 @@
 -- What a call of a cube that is held is answered, read off what the machine keeps for its nodes.
-use Rattle.std.proofs.Common.{◌≡◌, ℕ, ◌^◌, ◌<◌, true, false, not, ◌&&◌, ◌==◌, if◌then◌else◌, List, [], ◌∷◌, map, find, Option, Some, option_map, refl, ap, ◌∙◌}
+use Rattle.std.proofs.Common.{◌≡◌, ℕ, ◌^◌, ◌<◌, true, false, ◌&&◌, ◌==◌, if◌then◌else◌, List, [], ◌∷◌, map, find, Option, Some, option_map, refl, ap, ◌∙◌}
 use Rattle.std.specs.List.{list_all}
 use Rattle.ce_model.specs.declared.topology.TheConstants.{HOST}
 use Rattle.ce_model.specs.declared.topology.Place.{Place}
 use Rattle.ce_model.specs.declared.topology.BlockId.{BlockId}
 use Rattle.ce_model.specs.declared.entry.What.{What}
-use Rattle.ce_model.specs.declared.entry.What.TheVariants.{Arm, Look, HostTake, Send, Spawn, Kill, Note, Take}
+use Rattle.ce_model.specs.declared.entry.What.TheVariants.{Arm, Look, HostTake, Send, Note, Take}
 use Rattle.ce_model.specs.Parcels.{is_eligible}
-use Rattle.ce_model.specs.Node.{Call, take_call, send_call, spawn_call, kill_call, note_call, arm_call, look_call, mail_call}
+use Rattle.ce_model.specs.Node.{Call, take_call, send_call, note_call, arm_call, look_call, mail_call}
 use Rattle.ce_model.specs.Trace.{NodeRecord}
-use Rattle.ce_model.specs.Answers.{answer, offer_of, is_among, kill_found, is_quiet_node, is_quiet, look_result_where, first_number}
+use Rattle.ce_model.specs.Answers.{answer, offer_of, is_quiet_node, is_quiet, look_result_where, first_number}
 use Rattle.ce_model.specs.Cube.{node_numbers}
 use Rattle.ce_model.specs.Subcubes.{node_of}
 use Rattle.ce_model.specs.Renaming.{place_outward, renamed_targets}
-use Rattle.ce_model.specs.Machine.{MachineParts, MachineState, HeldCube, cube_held_by, nodes_of, host_record, cube_standing, with_places_outward, in_cube, what_of_request}
+use Rattle.ce_model.specs.Machine.{MachineParts, MachineState, HeldCube, cube_held_by, nodes_of, host_record, cube_standing, with_places_outward, cube_request, what_of_request}
 use Rattle.ce_solo.proofs.Projection.Numbers.{IsPlaced, out_node, out_no_host}
+use Rattle.ce_machine.specs.declared.order.Order.{Order}
+use Rattle.ce_machine.specs.declared.order.Order.TheVariants.{Spawn, Kill}
+use Rattle.ce_machine.specs.Orders.{call_of_order, what_of_order}
 
 -- the place of the machine that a place of a cube's node is
 abbrev pub place_of : HeldCube → Place → Place
@@ -26,7 +29,7 @@ module _ (state : MachineState) (cube : HeldCube) (actor : ℕ) where
   answer_to call = answer (nodes_of cube.grant) (cube_standing state cube) actor (with_places_outward cube.grant call)
 
   -- it makes the entry of a user that holds the cube
-  pub call-answered : (parts : MachineParts) (user : ℕ) (call : Call) → cube_held_by state user ≡ Some cube → what_of_request parts state user actor (in_cube call) ≡ Some (answer_to call)
+  pub call-answered : (parts : MachineParts) (user : ℕ) (call : Call) → cube_held_by state user ≡ Some cube → what_of_request parts state user actor (cube_request call) ≡ Some (answer_to call)
   call-answered parts user call holds = ap (option_map (λ cube. answer (nodes_of cube.grant) (cube_standing state cube) actor (with_places_outward cube.grant call))) holds
 
   pub send-answer : (pid : ℕ) (to : List (Place × BlockId)) (bytes : List ℕ)
@@ -59,19 +62,18 @@ module _ (state : MachineState) (cube : HeldCube) (actor : ℕ) where
     place-outward : (to : Place) → to.node < 2 ^ cube.grant.dim → place_outward cube.grant.sub to ≡ place_of cube to
     place-outward to below = ap (λ node. record { node = node; pid = to.pid }) (out_node dim cube.grant placed to.node below)
 
-    pub spawn-answer : (pid image : ℕ) (to : Place) → to.node < 2 ^ cube.grant.dim → answer_to (spawn_call pid image to)
-        ≡ Spawn pid image (place_of cube to) (not (is_among to.pid (state.node_record (node_of cube.grant.sub to.node)).spawned_ids))
+    order-renamed : (order : Order) (pid : ℕ) (to : Place) → answer_to (call_of_order order pid to)
+        ≡ (let at = place_outward cube.grant.sub to in what_of_order order pid at ((cube_standing state cube).node_record at.node))
     unfolding answer
-    spawn-answer pid image to below =
-        ap (λ (at : Place). Spawn pid image at (not (is_among at.pid ((cube_standing state cube).node_record at.node).spawned_ids))) (place-outward to below)
-        ∙ ap (λ (kept : NodeRecord). Spawn pid image (place_of cube to) (not (is_among to.pid kept.spawned_ids))) (node-standing to.node)
+    order-renamed (Spawn image) pid to = refl
+    order-renamed Kill pid to = refl
 
-    pub kill-answer : (pid : ℕ) (to : Place) → to.node < 2 ^ cube.grant.dim → answer_to (kill_call pid to)
-        ≡ Kill pid (place_of cube to) (kill_found (state.node_record (node_of cube.grant.sub to.node)) to.pid)
-    unfolding answer
-    kill-answer pid to below =
-        ap (λ (at : Place). Kill pid at (kill_found ((cube_standing state cube).node_record at.node) at.pid)) (place-outward to below)
-        ∙ ap (λ (kept : NodeRecord). Kill pid (place_of cube to) (kill_found kept to.pid)) (node-standing to.node)
+    pub order-answer : (order : Order) (pid : ℕ) (to : Place) → to.node < 2 ^ cube.grant.dim → answer_to (call_of_order order pid to)
+        ≡ what_of_order order pid (place_of cube to) (state.node_record (node_of cube.grant.sub to.node))
+    order-answer order pid to below =
+        order-renamed order pid to
+        ∙ ap (λ (at : Place). what_of_order order pid at ((cube_standing state cube).node_record at.node)) (place-outward to below)
+        ∙ ap (λ (node_record : NodeRecord). what_of_order order pid (place_of cube to) node_record) (node-standing to.node)
 
     all-quiet : (rs : List ℕ) → list_all (λ node. is_quiet_node ((cube_standing state cube).node_record node)) (map (node_of cube.grant.sub) rs)
         ≡ list_all (λ node. is_quiet_node (state.node_record node)) (map (node_of cube.grant.sub) rs)

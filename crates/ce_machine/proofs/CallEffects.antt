@@ -1,5 +1,6 @@
--- What each kind of call makes of what is kept for a node and of how its cube stands, and how a message comes to its places one by one.
-use Rattle.std.proofs.Common.{◌≡◌, ℕ, ◌+◌, ◌≤◌, Bool, true, false, ◌==◌, if◌then◌else◌, List, [], ◌∷◌, ◌++◌, map, filter, length, Option, Some, None, refl, ap, sym, ◌∙◌, subst, inl, inr, arith, append-nil, length-append}
+-- What each kind of call makes of what is kept for a node and of how its cube stands, and how a
+-- message comes to its places one by one.
+use Rattle.std.proofs.Common.{◌≡◌, ℕ, ◌+◌, ◌≤◌, Bool, true, false, not, ◌==◌, if◌then◌else◌, List, [], ◌∷◌, ◌++◌, map, filter, length, Option, Some, None, refl, ap, sym, ◌∙◌, subst, inl, inr, arith, append-nil, length-append}
 use Rattle.std.specs.List.{AllByRecursion}
 use Rattle.std.proofs.lemmas.Bool.{cases_Bool, both_ways, eq-eqb, ne_eqb, eqb-true}
 use Rattle.std.proofs.lemmas.List.{length-map}
@@ -13,22 +14,26 @@ use Rattle.ce_model.specs.declared.entry.What.TheVariants.{Arm, Look, HostTake, 
 use Rattle.ce_model.specs.declared.entry.LookResult.{LookResult}
 use Rattle.ce_model.specs.declared.entry.TakeResult.{TakeResult}
 use Rattle.ce_model.specs.declared.entry.TakeResult.TheVariants.{Mail}
-use Rattle.ce_model.specs.declared.entry.KillFound.{KillFound}
-use Rattle.ce_model.specs.declared.entry.KillFound.TheVariants.{Killed, Unused, Already}
+use Rattle.ce_model.specs.declared.entry.KillResult.{KillResult}
+use Rattle.ce_model.specs.declared.entry.KillResult.TheVariants.{Killed, Unused, Already}
 use Rattle.ce_model.specs.Lists.{without_first}
 use Rattle.ce_model.specs.Parcels.{Parcel, Item, start, mail, kill, is_named_by, message_parcels}
 use Rattle.ce_model.specs.Node.{Call, take_call, send_call, spawn_call, kill_call, note_call, arm_call, look_call, mail_call}
 use Rattle.ce_model.specs.Trace.{NodeRecord, Standing, taken_result, is_work, is_idle}
-use Rattle.ce_model.specs.Answers.{answer, recorded_call, is_quiet, is_used_up, look_result_where}
+use Rattle.ce_model.specs.Answers.{answer, recorded_call, is_among, kill_result, is_quiet, is_used_up, look_result_where}
 use Rattle.ce_model.specs.Subcubes.{is_inside}
 use Rattle.ce_model.specs.Renaming.{CubeGrant, place_outward, number_outward, renamed_targets}
 use Rattle.ce_model.specs.Limits.{greatest_blocks}
-use Rattle.ce_model.specs.Machine.{MachineParts, IsMachine, HeldCube, cube_held_by, nodes_of, cube_standing, item_inward, without_taken, record_by, cube_after_entry, after, with_places_outward, IsCallOf, IsLawful}
+use Rattle.ce_model.specs.Machine.{MachineParts, IsMachine, HeldCube, cube_held_by, nodes_of, cube_standing, item_inward, without_taken_item, record_after_entry, cube_after_entry, after, with_places_outward, IsCallOf, IsLawful}
 use Rattle.ce_model.proofs.Subcubes.{is_inside-node_of}
 use Rattle.ce_model.proofs.AloneByEntries.{call_of-answer}
 use Rattle.ce_solo.proofs.Sending.{place_parts}
 use Rattle.ce_solo.proofs.Projection.Numbers.{IsPlaced, IsNumber, out_node}
-use Rattle.ce_solo.proofs.Projection.Kinds.{entry_of}
+use Rattle.ce_model.specs.Literals.{entry_of}
+use Rattle.ce_machine.specs.declared.order.Order.{Order}
+use Rattle.ce_machine.specs.declared.order.Order.TheVariants as orders
+use Rattle.ce_machine.specs.Desks.{with_start, with_kill}
+use Rattle.ce_machine.specs.Orders.{what_of_order, with_order}
 use Rattle.ce_machine.proofs.Changes.{next}
 use Rattle.ce_machine.proofs.Called.{IsTarget, target-number, HasPlacesOf, placed-now, call-places}
 use Rattle.ce_machine.proofs.Answered.{send-answer}
@@ -37,7 +42,8 @@ use Rattle.ce_machine.proofs.Effects.{call-own, call-inside, call-outside}
 
 -- ---- what a message brings
 
--- what the entry of a message to these places of the cube brings to a number of the machine, which may be the host's
+-- what the entry of a message to these places of the cube brings to a number of the machine, which
+-- may be the host's
 abbrev pub mails_at : Subcube → Place → ℕ → List ℕ → ℕ → List (Place × BlockId) → List Item
 mails_at sub from first bytes node to =
     map (item_inward sub) (map mail (filter (λ parcel. parcel.to.node == node) (message_parcels from first bytes (renamed_targets (place_outward sub) (λ id. id) to))))
@@ -52,10 +58,10 @@ mails-none sub from first bytes node (target ∷ to) all = rw all.0 (mails-none 
 
 -- what is kept for a node, once an actor has made an entry that is no take
 abbrev pub with_call_mark : ℕ → ℕ → NodeRecord → NodeRecord
-with_call_mark actor node kept = record kept { mark = if actor == node then record kept.mark { is_idle = false } else kept.mark }
+with_call_mark actor node node_record = record node_record { mark = if actor == node then record node_record.mark { is_idle = false } else node_record.mark }
 
-pub busy-other : (actor node : ℕ) (kept : NodeRecord) → (actor == node) ≡ false → with_call_mark actor node kept ≡ kept
-busy-other actor node kept differ = rw differ refl
+pub busy-other : (actor node : ℕ) (node_record : NodeRecord) → (actor == node) ≡ false → with_call_mark actor node node_record ≡ node_record
+busy-other actor node node_record differ = rw differ refl
 
 -- nothing is taken, and nothing is sent
 stays : (b : Bool) (items : List Item) → (if b then items else items) ++ [] ≡ items
@@ -69,95 +75,95 @@ comes : (b : Bool) (items more : List Item) → (if b then items else items) ++ 
 comes true items more = refl
 comes false items more = refl
 
-module _ (sub : Subcube) (user actor node : ℕ) (kept : NodeRecord) where
+module _ (sub : Subcube) (user actor node : ℕ) (node_record : NodeRecord) where
   -- what is kept once this entry is made
   abbrev pub by : What → NodeRecord
-  by what = record_by sub (entry_of user actor what) node kept
+  by what = record_after_entry sub (entry_of user actor what) node node_record
 
-  pub note-record : (pid word : ℕ) → by (Note pid word) ≡ with_call_mark actor node kept
+  pub note-record : (pid word : ℕ) → by (Note pid word) ≡ with_call_mark actor node node_record
   note-record pid word = λ i. record {
-    waiting_items = stays (actor == node) kept.waiting_items i;
-    spawned_ids = append-nil kept.spawned_ids i;
-    killed_ids = append-nil kept.killed_ids i;
-    mark = if actor == node then record kept.mark { is_idle = false } else kept.mark;
+    waiting_items = stays (actor == node) node_record.waiting_items i;
+    spawned_ids = append-nil node_record.spawned_ids i;
+    killed_ids = append-nil node_record.killed_ids i;
+    mark = if actor == node then record node_record.mark { is_idle = false } else node_record.mark;
   }
 
-  -- a spawn, of an id that is new
-  pub spawn-here : (pid image : ℕ) (to : Place) → (to.node == node) ≡ true
-      → by (Spawn pid image to true) ≡ record (with_call_mark actor node kept) { waiting_items = kept.waiting_items ++ start to.pid image ∷ []; spawned_ids = kept.spawned_ids ++ to.pid ∷ [] }
-  spawn-here pid image to here = rw here (λ i. record {
-    waiting_items = comes (actor == node) kept.waiting_items (start to.pid image ∷ []) i;
-    spawned_ids = kept.spawned_ids ++ to.pid ∷ [];
-    killed_ids = append-nil kept.killed_ids i;
-    mark = if actor == node then record kept.mark { is_idle = false } else kept.mark;
+  -- a spawn, of an id that is new or of one that isn't
+  spawn-here : (pid image : ℕ) (to : Place) (fresh : Bool) → (to.node == node) ≡ true
+      → by (Spawn pid image to fresh) ≡ with_call_mark actor node (if fresh then with_start to.pid image node_record else node_record)
+  spawn-here pid image to true here = rw here (λ i. record {
+    waiting_items = comes (actor == node) node_record.waiting_items (start to.pid image ∷ []) i;
+    spawned_ids = node_record.spawned_ids ++ to.pid ∷ [];
+    killed_ids = append-nil node_record.killed_ids i;
+    mark = if actor == node then record node_record.mark { is_idle = false } else node_record.mark;
   })
+  spawn-here pid image to false here = note-record pid image
 
-  pub spawn-away : (pid image : ℕ) (to : Place) (fresh : Bool) → (to.node == node) ≡ false → by (Spawn pid image to fresh) ≡ with_call_mark actor node kept
+  spawn-away : (pid image : ℕ) (to : Place) (fresh : Bool) → (to.node == node) ≡ false → by (Spawn pid image to fresh) ≡ with_call_mark actor node node_record
   spawn-away pid image to true away = rw away (note-record pid image)
   spawn-away pid image to false away = note-record pid image
 
-  -- and of one that isn't
-  pub spawn-used : (pid image : ℕ) (to : Place) → by (Spawn pid image to false) ≡ with_call_mark actor node kept
-  spawn-used pid image to = note-record pid image
-
-  -- a kill that is accepted
-  pub kill-here : (pid : ℕ) (to : Place) → (to.node == node) ≡ true
-      → by (Kill pid to Killed) ≡ record (with_call_mark actor node kept) { waiting_items = kept.waiting_items ++ kill to.pid ∷ []; killed_ids = kept.killed_ids ++ to.pid ∷ [] }
-  kill-here pid to here = rw here (λ i. record {
-    waiting_items = comes (actor == node) kept.waiting_items (kill to.pid ∷ []) i;
-    spawned_ids = append-nil kept.spawned_ids i;
-    killed_ids = kept.killed_ids ++ to.pid ∷ [];
-    mark = if actor == node then record kept.mark { is_idle = false } else kept.mark;
+  -- a kill that is accepted, or one that isn't
+  kill-here : (pid : ℕ) (to : Place) (found : KillResult) → (to.node == node) ≡ true → by (Kill pid to found) ≡ with_call_mark actor node (with_kill found to.pid node_record)
+  kill-here pid to Killed here = rw here (λ i. record {
+    waiting_items = comes (actor == node) node_record.waiting_items (kill to.pid ∷ []) i;
+    spawned_ids = append-nil node_record.spawned_ids i;
+    killed_ids = node_record.killed_ids ++ to.pid ∷ [];
+    mark = if actor == node then record node_record.mark { is_idle = false } else node_record.mark;
   })
+  kill-here pid to Unused here = note-record pid 0
+  kill-here pid to Already here = note-record pid 0
 
-  pub kill-away : (pid : ℕ) (to : Place) (found : KillFound) → (to.node == node) ≡ false → by (Kill pid to found) ≡ with_call_mark actor node kept
+  kill-away : (pid : ℕ) (to : Place) (found : KillResult) → (to.node == node) ≡ false → by (Kill pid to found) ≡ with_call_mark actor node node_record
   kill-away pid to Killed away = rw away (note-record pid 0)
   kill-away pid to Unused away = note-record pid 0
   kill-away pid to Already away = note-record pid 0
 
-  -- and one that isn't
-  pub kill-unused : (pid : ℕ) (to : Place) → by (Kill pid to Unused) ≡ with_call_mark actor node kept
-  kill-unused pid to = note-record pid 0
+  -- an order, at its place and away from it
+  pub order-here : (order : Order) (pid : ℕ) (to : Place) → (to.node == node) ≡ true → by (what_of_order order pid to node_record) ≡ with_call_mark actor node (with_order order to.pid node_record)
+  order-here (orders.Spawn image) pid to here = spawn-here pid image to (not (is_among to.pid node_record.spawned_ids)) here
+  order-here orders.Kill pid to here = kill-here pid to (kill_result node_record to.pid) here
 
-  pub kill-already : (pid : ℕ) (to : Place) → by (Kill pid to Already) ≡ with_call_mark actor node kept
-  kill-already pid to = note-record pid 0
+  pub order-away : (order : Order) (pid : ℕ) (to : Place) (there : NodeRecord) → (to.node == node) ≡ false → by (what_of_order order pid to there) ≡ with_call_mark actor node node_record
+  order-away (orders.Spawn image) pid to there away = spawn-away pid image to (not (is_among to.pid there.spawned_ids)) away
+  order-away orders.Kill pid to there away = kill-away pid to (kill_result there to.pid) away
 
   -- a message to places of the cube
   pub send-record : (pid first : ℕ) (to : List (Place × BlockId)) (bytes : List ℕ)
       → by (Send pid first (renamed_targets (place_outward sub) (λ id. id) to) bytes)
-      ≡ record (with_call_mark actor node kept) { waiting_items = kept.waiting_items ++ mails_at sub (record { node = actor; pid = pid }) first bytes node to }
+      ≡ record (with_call_mark actor node node_record) { waiting_items = node_record.waiting_items ++ mails_at sub (record { node = actor; pid = pid }) first bytes node to }
   send-record pid first to bytes = λ i. record {
-    waiting_items = comes (actor == node) kept.waiting_items (mails_at sub (record { node = actor; pid = pid }) first bytes node to) i;
-    spawned_ids = append-nil kept.spawned_ids i;
-    killed_ids = append-nil kept.killed_ids i;
-    mark = if actor == node then record kept.mark { is_idle = false } else kept.mark;
+    waiting_items = comes (actor == node) node_record.waiting_items (mails_at sub (record { node = actor; pid = pid }) first bytes node to) i;
+    spawned_ids = append-nil node_record.spawned_ids i;
+    killed_ids = append-nil node_record.killed_ids i;
+    mark = if actor == node then record node_record.mark { is_idle = false } else node_record.mark;
   }
 
   -- what a node takes
   pub take-own : (asking dead : ℕ) (poller : Option ℕ) (given : TakeResult) → (actor == node) ≡ true → by (Take asking dead poller given)
-      ≡ record kept { waiting_items = without_taken (taken_result (Take asking dead poller given)) kept.waiting_items; mark = record { is_idle = is_idle given; asking = asking; dead = dead } }
+      ≡ record node_record { waiting_items = without_taken_item (taken_result (Take asking dead poller given)) node_record.waiting_items; mark = record { is_idle = is_idle given; asking = asking; dead = dead } }
   take-own asking dead poller given own = rw own (λ i. record {
-    waiting_items = append-nil (without_taken (taken_result (Take asking dead poller given)) kept.waiting_items) i;
-    spawned_ids = append-nil kept.spawned_ids i;
-    killed_ids = append-nil kept.killed_ids i;
+    waiting_items = append-nil (without_taken_item (taken_result (Take asking dead poller given)) node_record.waiting_items) i;
+    spawned_ids = append-nil node_record.spawned_ids i;
+    killed_ids = append-nil node_record.killed_ids i;
     mark = record { is_idle = is_idle given; asking = asking; dead = dead };
   })
 
   -- what the calls of others leave
   module _ (other : (actor == node) ≡ false) where
-    quiet : record { waiting_items = kept.waiting_items ++ []; spawned_ids = kept.spawned_ids ++ []; killed_ids = kept.killed_ids ++ []; mark = kept.mark } ≡ kept
-    quiet = λ i. record { waiting_items = append-nil kept.waiting_items i; spawned_ids = append-nil kept.spawned_ids i; killed_ids = append-nil kept.killed_ids i; mark = kept.mark }
+    quiet : record { waiting_items = node_record.waiting_items ++ []; spawned_ids = node_record.spawned_ids ++ []; killed_ids = node_record.killed_ids ++ []; mark = node_record.mark } ≡ node_record
+    quiet = λ i. record { waiting_items = append-nil node_record.waiting_items i; spawned_ids = append-nil node_record.spawned_ids i; killed_ids = append-nil node_record.killed_ids i; mark = node_record.mark }
 
-    pub take-other : (asking dead : ℕ) (poller : Option ℕ) (given : TakeResult) → by (Take asking dead poller given) ≡ kept
+    pub take-other : (asking dead : ℕ) (poller : Option ℕ) (given : TakeResult) → by (Take asking dead poller given) ≡ node_record
     take-other asking dead poller given = rw other quiet
 
-    pub arm-record : (count : ℕ) → by (Arm count) ≡ kept
+    pub arm-record : (count : ℕ) → by (Arm count) ≡ node_record
     arm-record count = rw other quiet
 
-    pub look-record : (found : LookResult) → by (Look found) ≡ kept
+    pub look-record : (found : LookResult) → by (Look found) ≡ node_record
     look-record found = rw other quiet
 
-    pub take_mail-record : (number : Option ℕ) → by (HostTake number) ≡ kept
+    pub take_mail-record : (number : Option ℕ) → by (HostTake number) ≡ node_record
     take_mail-record number = rw other quiet
 
 -- ---- how the cube stands
@@ -179,14 +185,18 @@ module _ (user actor : ℕ) (cube : HeldCube) where
   pub look-cube : (found : LookResult) → cube_by (Look found) ≡ cube
   look-cube found = note-cube 0 0
 
-  pub spawn-cube : (pid image : ℕ) (to : Place) (fresh : Bool) → (to.node == HOST) ≡ false → cube_by (Spawn pid image to fresh) ≡ cube
+  spawn-cube : (pid image : ℕ) (to : Place) (fresh : Bool) → (to.node == HOST) ≡ false → cube_by (Spawn pid image to fresh) ≡ cube
   spawn-cube pid image to true node = rw node (note-cube 0 0)
   spawn-cube pid image to false node = note-cube 0 0
 
-  pub kill-cube : (pid : ℕ) (to : Place) (found : KillFound) → (to.node == HOST) ≡ false → cube_by (Kill pid to found) ≡ cube
+  kill-cube : (pid : ℕ) (to : Place) (found : KillResult) → (to.node == HOST) ≡ false → cube_by (Kill pid to found) ≡ cube
   kill-cube pid to Killed node = rw node (note-cube 0 0)
   kill-cube pid to Unused node = note-cube 0 0
   kill-cube pid to Already node = note-cube 0 0
+
+  pub order-cube : (order : Order) (pid : ℕ) (to : Place) (there : NodeRecord) → (to.node == HOST) ≡ false → cube_by (what_of_order order pid to there) ≡ cube
+  order-cube (orders.Spawn image) pid to there node = spawn-cube pid image to (not (is_among to.pid there.spawned_ids)) node
+  order-cube orders.Kill pid to there node = kill-cube pid to (kill_result there to.pid) node
 
   pub take-cube : (asking dead : ℕ) (poller : Option ℕ) (given : TakeResult) → (actor == HOST) ≡ false
       → cube_by (Take asking dead poller given) ≡ record cube { made_dispatches = if is_work given then cube.made_dispatches + 1 else cube.made_dispatches }
@@ -229,27 +239,27 @@ module _ (user actor : ℕ) (cube : HeldCube) where
 -- ---- each node of the machine
 
 -- an entry whose actor and places are elsewhere leaves what is kept for a node
-outside-quiet : (d : ℕ) (grant : CubeGrant) (user actor node : ℕ) (kept : NodeRecord) (nodes : List ℕ) (s : Standing) (call : Call) → HasPlacesOf d call
+outside-quiet : (d : ℕ) (grant : CubeGrant) (user actor node : ℕ) (node_record : NodeRecord) (nodes : List ℕ) (s : Standing) (call : Call) → HasPlacesOf d call
     → (actor == node) ≡ false → ((n : ℕ) → IsNumber d n → (number_outward grant.sub n == node) ≡ false)
-    → record_by grant.sub (entry_of user actor (answer nodes s actor (with_places_outward grant call))) node kept ≡ kept
+    → record_after_entry grant.sub (entry_of user actor (answer nodes s actor (with_places_outward grant call))) node node_record ≡ node_record
 unfolding answer
-outside-quiet d grant user actor node kept nodes s (take_call asking dead poller) is other apart = take-other grant.sub user actor node kept other asking dead poller _
-outside-quiet d grant user actor node kept nodes s (send_call pid to bytes) is other apart =
-    send-record grant.sub user actor node kept pid s.parcel_count to bytes
-    ∙ rw (mails-none grant.sub (record { node = actor; pid = pid }) s.parcel_count bytes node to (away to is), other) (λ i. record kept { waiting_items = append-nil kept.waiting_items i })
+outside-quiet d grant user actor node node_record nodes s (take_call asking dead poller) is other apart = take-other grant.sub user actor node node_record other asking dead poller _
+outside-quiet d grant user actor node node_record nodes s (send_call pid to bytes) is other apart =
+    send-record grant.sub user actor node node_record pid s.parcel_count to bytes
+    ∙ rw (mails-none grant.sub (record { node = actor; pid = pid }) s.parcel_count bytes node to (away to is), other) (λ i. record node_record { waiting_items = append-nil node_record.waiting_items i })
   where
     away : (to : List (Place × BlockId)) → AllByRecursion (λ target. IsTarget d target.0) to
         → AllByRecursion (λ target. (number_outward grant.sub target.0.node == node) ≡ false) to
     away [] all = tt
     away (target ∷ to) all = (apart target.0.node (target-number d target.0 all.0), away to all.1)
-outside-quiet d grant user actor node kept nodes s (spawn_call pid image to) is other apart =
-    spawn-away grant.sub user actor node kept pid image (place_outward grant.sub to) _ (apart to.node (inl (place_parts d to is).0)) ∙ busy-other actor node kept other
-outside-quiet d grant user actor node kept nodes s (kill_call pid to) is other apart =
-    kill-away grant.sub user actor node kept pid (place_outward grant.sub to) _ (apart to.node (inl (place_parts d to is).0)) ∙ busy-other actor node kept other
-outside-quiet d grant user actor node kept nodes s (note_call pid word) is other apart = note-record grant.sub user actor node kept pid word ∙ busy-other actor node kept other
-outside-quiet d grant user actor node kept nodes s (arm_call count) is other apart = arm-record grant.sub user actor node kept other count
-outside-quiet d grant user actor node kept nodes s look_call is other apart = look-record grant.sub user actor node kept other (look_result_where (is_quiet nodes s) (is_used_up s))
-outside-quiet d grant user actor node kept nodes s mail_call is other apart = take_mail-record grant.sub user actor node kept other _
+outside-quiet d grant user actor node node_record nodes s (spawn_call pid image to) is other apart =
+    spawn-away grant.sub user actor node node_record pid image (place_outward grant.sub to) _ (apart to.node (inl (place_parts d to is).0)) ∙ busy-other actor node node_record other
+outside-quiet d grant user actor node node_record nodes s (kill_call pid to) is other apart =
+    kill-away grant.sub user actor node node_record pid (place_outward grant.sub to) _ (apart to.node (inl (place_parts d to is).0)) ∙ busy-other actor node node_record other
+outside-quiet d grant user actor node node_record nodes s (note_call pid word) is other apart = note-record grant.sub user actor node node_record pid word ∙ busy-other actor node node_record other
+outside-quiet d grant user actor node node_record nodes s (arm_call count) is other apart = arm-record grant.sub user actor node node_record other count
+outside-quiet d grant user actor node node_record nodes s look_call is other apart = look-record grant.sub user actor node node_record other (look_result_where (is_quiet nodes s) (is_used_up s))
+outside-quiet d grant user actor node node_record nodes s mail_call is other apart = take_mail-record grant.sub user actor node node_record other _
 
 module _ (parts : MachineParts) (machine : IsMachine parts) (h : List Entry) (lawful : IsLawful parts h) (user : ℕ) (cube : HeldCube) (holds : cube_held_by (after h) user ≡ Some cube)
     (actor : ℕ) (call : Call) (fits : IsCallOf parts h actor call cube) where
@@ -263,15 +273,16 @@ module _ (parts : MachineParts) (machine : IsMachine parts) (h : List Entry) (la
     is_called : recorded_call what ≡ Some (with_places_outward cube.grant call)
     is_called = ap recorded_call (sym answered) ∙ call_of-answer (nodes_of cube.grant) (cube_standing (after h) cube) actor (with_places_outward cube.grant call)
 
-    -- a call that fits changes what is kept for each node of the machine as it does for one of the cube
+    -- a call that fits changes what is kept for each node of the machine as it does for one of the
+    -- cube
     pub call-each : (node : ℕ) → (node == HOST) ≡ false
-        → (next h (entry_of user actor what)).node_record node ≡ record_by cube.grant.sub (entry_of user actor what) node ((after h).node_record node)
+        → (next h (entry_of user actor what)).node_record node ≡ record_after_entry cube.grant.sub (entry_of user actor what) node ((after h).node_record node)
     call-each node no_host =
         elim (cases_Bool (is_inside cube.grant.sub node)) [
           | inl inside ↦ call-inside h entry (with_places_outward cube.grant call) is_called cube node holds inside
           | inr outside ↦
               call-outside h entry (with_places_outward cube.grant call) is_called cube node holds outside
-              ∙ sym (ap (λ what. record_by cube.grant.sub (entry_of user actor what) node ((after h).node_record node)) (sym answered)
+              ∙ sym (ap (λ what. record_after_entry cube.grant.sub (entry_of user actor what) node ((after h).node_record node)) (sym answered)
               ∙ outside-quiet cube.grant.dim cube.grant user actor node ((after h).node_record node) (nodes_of cube.grant) (cube_standing (after h) cube) call
               (call-places parts machine h lawful user cube holds actor call fits) (elsewhere outside) (apart outside))
         ]
@@ -324,7 +335,7 @@ module _ (parts : MachineParts) (machine : IsMachine parts) (h : List Entry) (la
         omega (
           arith,
           (node-limits parts (h ++ entry_of user actor sending ∷ []) machine lawful' node).waiting,
-          ap (λ (kept : NodeRecord). length kept.waiting_items) (sent-each node no_host),
+          ap (λ (node_record : NodeRecord). length node_record.waiting_items) (sent-each node no_host),
           length-append ((after h).node_record node).waiting_items (arrived node to),
         )
 

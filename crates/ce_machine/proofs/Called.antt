@@ -1,4 +1,5 @@
--- What is known of a call of a cube that fits: who makes it, how many places it names, and that they are the cube's.
+-- What is known of a call of a cube that fits: who makes it, how many places it names, and that
+-- they are the cube's.
 use Rattle.std.proofs.Common.{◌≡◌, ◌⊎◌, ℕ, ◌<◌, ◌≤◌, true, false, ◌==◌, List, [], ◌∷◌, length, Some, ap, ◌∙◌, subst, inl, inr, arith}
 use Rattle.std.specs.List.{AllByRecursion}
 use Rattle.std.proofs.lemmas.Bool.{eqb-true}
@@ -11,7 +12,7 @@ use Rattle.ce_model.specs.Limits.{greatest_targets, process_count, process_count
 use Rattle.ce_model.specs.Node.{Node, Call, send_call, spawn_call, kill_call, is_place, host_place}
 use Rattle.ce_model.specs.Kernel.{is_target}
 use Rattle.ce_model.specs.Saying.{says}
-use Rattle.ce_model.specs.Cube.{Cube, CubeState, IsCube, opening, state_after_trace, host_call_of, actor_call}
+use Rattle.ce_model.specs.Cube.{Cube, CubeState, IsCube, opening, state_after_trace, wish_of_call, actor_call}
 use Rattle.ce_model.specs.Sound.{IsSound}
 use Rattle.ce_model.specs.Subcubes.{relative_number, is_inside}
 use Rattle.ce_model.specs.Renaming.{renamed_targets, renamed_call_blocks, block_outward}
@@ -27,7 +28,7 @@ use Rattle.ce_solo.proofs.Projection.Views.{view-is}
 use Rattle.ce_solo.proofs.Projection.Invariant.{IsHeld, IsProjected}
 use Rattle.ce_solo.proofs.Projection.Own.{own_cube, stands}
 use Rattle.ce_solo.proofs.Projection.Law.{projected}
-use Rattle.ce_machine.proofs.NodeCalls.{IsNodeCall, says-node_call, IsHostCall, wish-host_call}
+use Rattle.ce_machine.proofs.NodeCalls.{IsNodeActorCall, says-node_call, IsHostActorCall, wish-call_of_wish}
 
 -- ---- the places of a call
 
@@ -50,7 +51,7 @@ HasPlacesOf d (spawn_call pid image to) = is_place d to ≡ true
 HasPlacesOf d (kill_call pid to) = is_place d to ≡ true
 HasPlacesOf d other = Unit {0}
 
-host-places : (d : ℕ) (call : Call) → IsHostCall d call → HasPlacesOf d call
+host-places : (d : ℕ) (call : Call) → IsHostActorCall d call → HasPlacesOf d call
 host-places d (send_call pid to bytes) is = all-weaker (λ (target : Place × BlockId). is_place d target.0 ≡ true) (λ target. IsTarget d target.0) to (λ target place. inl place) is.1
 host-places d (spawn_call pid image to) is = is
 host-places d (kill_call pid to) is = is
@@ -68,11 +69,11 @@ abbrev pub HasFewPlaces : Call → Type 0
 HasFewPlaces (send_call pid to bytes) = length to ≤ greatest_targets
 HasFewPlaces other = Unit {0}
 
-few-by_node : (call : Call) → IsNodeCall call → HasFewPlaces call
+few-by_node : (call : Call) → IsNodeActorCall call → HasFewPlaces call
 few-by_node (send_call pid to bytes) is = is
 few-by_node other is = tt
 
-few-by_host : (d : ℕ) (call : Call) → IsHostCall d call → HasFewPlaces call
+few-by_host : (d : ℕ) (call : Call) → IsHostActorCall d call → HasFewPlaces call
 few-by_host d (send_call pid to bytes) is = is.0
 few-by_host d other is = tt
 
@@ -93,11 +94,11 @@ module _ (rename : BlockId → BlockId) where
   has-places d (send_call pid to bytes) is = all-renamed (IsTarget d) to is
   has-places d other is = is
 
-  node-renamed : (call : Call) → IsNodeCall call → IsNodeCall (renamed_call_blocks rename call)
+  node-renamed : (call : Call) → IsNodeActorCall call → IsNodeActorCall (renamed_call_blocks rename call)
   node-renamed (send_call pid to bytes) is = omega (arith, is, renamed-count to)
   node-renamed other is = is
 
-  host-renamed : (d : ℕ) (call : Call) → IsHostCall d call → IsHostCall d (renamed_call_blocks rename call)
+  host-renamed : (d : ℕ) (call : Call) → IsHostActorCall d call → IsHostActorCall d (renamed_call_blocks rename call)
   host-renamed d (send_call pid to bytes) is = (omega (arith, is.0, renamed-count to), all-renamed (λ place. is_place d place ≡ true) to is.1)
   host-renamed d other is = is
 
@@ -132,38 +133,38 @@ module _ (parts : MachineParts) (machine : IsMachine parts) (h : List Entry) (la
     -- ---- a call of it that fits
 
     module _ (actor : ℕ) (call : Call) (fits : IsCallOf parts h actor call cube) where
-      is_made : IsMadeCall own left_now (relative_number cube.grant.sub actor) (host_call_of fits.inner) fits.inner
+      is_made : IsMadeCall own left_now (relative_number cube.grant.sub actor) (wish_of_call fits.inner) fits.inner
       is_made =
-          made own left_now (relative_number cube.grant.sub actor) (host_call_of fits.inner) fits.inner
-          (subst (λ t. actor_call own (opening own) t (relative_number cube.grant.sub actor) (host_call_of fits.inner) ≡ Some fits.inner)
+          made own left_now (relative_number cube.grant.sub actor) (wish_of_call fits.inner) fits.inner
+          (subst (λ t. actor_call own (opening own) t (relative_number cube.grant.sub actor) (wish_of_call fits.inner) ≡ Some fits.inner)
           (view-is h cube.number cube.grant was.behind was.found) fits.next)
 
       -- it names places of the cube
       pub call-places : HasPlacesOf cube.grant.dim call
       call-places = subst (HasPlacesOf cube.grant.dim) fits.renamed (has-places (block_outward cube.grant) cube.grant.dim fits.inner (by_made is_made))
         where
-          by_made : IsMadeCall own left_now (relative_number cube.grant.sub actor) (host_call_of fits.inner) fits.inner → HasPlacesOf cube.grant.dim fits.inner
-          by_made (by_host is e) = host-places cube.grant.dim fits.inner (wish-host_call own left_now.hoststore (host_call_of fits.inner) fits.inner e)
+          by_made : IsMadeCall own left_now (relative_number cube.grant.sub actor) (wish_of_call fits.inner) fits.inner → HasPlacesOf cube.grant.dim fits.inner
+          by_made (by_host is e) = host-places cube.grant.dim fits.inner (wish-call_of_wish own left_now.hoststore (wish_of_call fits.inner) fits.inner e)
           by_made (by_node below e) =
               let r = relative_number cube.grant.sub actor in
               let said = made-leaves own left_now r fits.inner own-is below (sound-now fits.not_drained) e in
               node-places own (says (left_now.node r)).node fits.inner (said.became.dim ∙ ((sound-now fits.not_drained).nodes r below).dim) said.of_node
 
       -- of a host it is a call that a host can make
-      pub host-call : (actor == HOST) ≡ true → IsHostCall cube.grant.dim call
-      host-call host = subst (IsHostCall cube.grant.dim) fits.renamed (host-renamed (block_outward cube.grant) cube.grant.dim fits.inner (by_made is_made))
+      pub host-call : (actor == HOST) ≡ true → IsHostActorCall cube.grant.dim call
+      host-call host = subst (IsHostActorCall cube.grant.dim) fits.renamed (host-renamed (block_outward cube.grant) cube.grant.dim fits.inner (by_made is_made))
         where
-          by_made : IsMadeCall own left_now (relative_number cube.grant.sub actor) (host_call_of fits.inner) fits.inner → IsHostCall cube.grant.dim fits.inner
-          by_made (by_host is e) = wish-host_call own left_now.hoststore (host_call_of fits.inner) fits.inner e
+          by_made : IsMadeCall own left_now (relative_number cube.grant.sub actor) (wish_of_call fits.inner) fits.inner → IsHostActorCall cube.grant.dim fits.inner
+          by_made (by_host is e) = wish-call_of_wish own left_now.hoststore (wish_of_call fits.inner) fits.inner e
           by_made (by_node below e) =
               let is : relative_number cube.grant.sub actor ≡ HOST = ap (relative_number cube.grant.sub) (eqb-true actor HOST host) ∙ relative_host parts.dim cube.grant was.placed in
               absurd (omega (arith, is, not_host own _ own-is below))
 
       -- and of a node one that a node can make
-      pub node-call : is_inside cube.grant.sub actor ≡ true → IsNodeCall call
-      node-call inside = subst IsNodeCall fits.renamed (node-renamed (block_outward cube.grant) fits.inner (by_made is_made))
+      pub node-call : is_inside cube.grant.sub actor ≡ true → IsNodeActorCall call
+      node-call inside = subst IsNodeActorCall fits.renamed (node-renamed (block_outward cube.grant) fits.inner (by_made is_made))
         where
-          by_made : IsMadeCall own left_now (relative_number cube.grant.sub actor) (host_call_of fits.inner) fits.inner → IsNodeCall fits.inner
+          by_made : IsMadeCall own left_now (relative_number cube.grant.sub actor) (wish_of_call fits.inner) fits.inner → IsNodeActorCall fits.inner
           by_made (by_host is e) =
               absurd (omega (
                 arith,
@@ -171,15 +172,15 @@ module _ (parts : MachineParts) (machine : IsMachine parts) (h : List Entry) (la
                 relative_inside parts.dim cube.grant was.placed actor inside,
                 not_host own _ own-is (inside_below parts.dim cube.grant was.placed actor inside),
               ))
-          by_made (by_node below e) = subst IsNodeCall e (says-node_call (left_now.node (relative_number cube.grant.sub actor)))
+          by_made (by_node below e) = subst IsNodeActorCall e (says-node_call (left_now.node (relative_number cube.grant.sub actor)))
 
       -- it names so many places at most
       pub call-few : HasFewPlaces call
       call-few = elim fits.inside [ inl host ↦ few-by_host cube.grant.dim call (host-call host) | inr inside ↦ few-by_node call (node-call inside) ]
 
       -- so what a node can't make is a host's, and what a host can't make is a node's
-      pub of-host : (IsNodeCall call → ⊥) → (actor == HOST) ≡ true
+      pub of-host : (IsNodeActorCall call → ⊥) → (actor == HOST) ≡ true
       of-host none = elim fits.inside [ inl host ↦ host | inr inside ↦ absurd (none (node-call inside)) ]
 
-      pub of-node : (IsHostCall cube.grant.dim call → ⊥) → is_inside cube.grant.sub actor ≡ true
+      pub of-node : (IsHostActorCall cube.grant.dim call → ⊥) → is_inside cube.grant.sub actor ≡ true
       of-node none = elim fits.inside [ inl host ↦ absurd (none (host-call host)) | inr inside ↦ inside ]

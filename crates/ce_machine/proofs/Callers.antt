@@ -1,4 +1,5 @@
--- What the code of a call has at hand of its caller: the grant of the cube, and the desks that are its.
+-- What the code of a call has at hand of its caller: the grant of the cube, and the desks that are
+-- its.
 use Rattle.std.proofs.Common.{◌≡◌, ◌⊎◌, ℕ, ◌<◌, ◌≤◌, List, length, Some, IsSome, arith}
 use Rattle.ce_model.specs.declared.topology.TheConstants.{HOST}
 use Rattle.ce_model.specs.Node as model
@@ -11,13 +12,13 @@ use Rattle.ce_machine.proofs.Entries.{SoundMachine, IsIn, few-desks, actor-known
 use Rattle.ce_machine.proofs.SayEntries.{still-actor}
 
 module _ (m : SoundMachine) where
-  open m use {parts, history as h, holding, desks}
+  open m use {parts, history as h, table, desks}
 
   module _ {user : ℕ} {P : HeldCube → Type 0} (in_cube : IsIn h user P) where
-    pub caller-grant : IsSome (daemon.grant_held_by holding user)
+    pub caller-grant : IsSome (daemon.grant_held_by table user)
     caller-grant = has-grant m user in_cube.cube in_cube.holds
 
-    pub caller-desks : {grant : Grant} → daemon.grant_held_by holding user ≡ Some grant → IsOnDesks (length desks) grant.dim grant.sub
+    pub caller-desks : {grant : Grant} → daemon.grant_held_by table user ≡ Some grant → IsOnDesks (length desks) grant.dim grant.sub
     caller-desks {grant} known = on-desks m user in_cube.cube grant in_cube.holds (grant-is m user in_cube.cube grant in_cube.holds known)
 
   module _ {user actor : ℕ} {call : model.Call} (in_cube : IsIn h user (IsCallOf parts h actor call)) where

@@ -6,11 +6,11 @@ use Rattle.ce_model.specs.declared.entry.What.{What}
 use Rattle.ce_model.specs.declared.entry.What.TheVariants.{Getcube, Peek, Drain, Freecube}
 use Rattle.ce_model.specs.Node.{Call}
 use Rattle.ce_model.specs.Answers.{answer, recorded_call}
-use Rattle.ce_model.specs.Subcubes.{first_free}
+use Rattle.ce_model.specs.Subcubes.{first_free_subcube}
 use Rattle.ce_model.specs.Renaming.{CubeGrant}
-use Rattle.ce_model.specs.Machine.{MachineParts, HeldCube, MachineState, cube_held_by, is_free, nodes_of, cube_standing, record_by, cube_after_entry, with_cube, with_grant, with_drained, without_cube, state_after_entry, state_after_call, after, Request, getcube, peek, drain, freecube, in_cube, with_places_outward, what_of_request, IsCallOf, IsFittingIn, IsLawfulEntry}
+use Rattle.ce_model.specs.Machine.{MachineParts, HeldCube, MachineState, cube_held_by, is_free, nodes_of, cube_standing, record_after_entry, cube_after_entry, with_cube, with_grant, with_drained_cube, without_cube, state_after_entry, state_after_call, after, Request, getcube, peek, drain, freecube, cube_request, with_places_outward, what_of_request, IsCallOf, IsFittingIn, IsLawfulEntry}
 use Rattle.ce_model.proofs.AloneByEntries.{call_of-answer}
-use Rattle.ce_solo.proofs.Projection.Kinds.{entry_of}
+use Rattle.ce_model.specs.Literals.{entry_of}
 use Rattle.ce_solo.proofs.Projection.Law.{after-more}
 
 pub same_cube : (x y : HeldCube) → Some x ≡ Some y → x ≡ y
@@ -29,14 +29,14 @@ pub data Change (parts : MachineParts) (h : List Entry) (entry : Entry) : Type 0
   -- a peek, or a getcube for which none was free
   nothing : next h entry ≡ after h → Change parts h entry
   -- a getcube that got a cube
-  grants : (dim : ℕ) (sub : Subcube) → cube_held_by (after h) entry.user ≡ None → first_free (is_free (after h)) parts.dim dim ≡ Some sub
+  grants : (dim : ℕ) (sub : Subcube) → cube_held_by (after h) entry.user ≡ None → first_free_subcube (is_free (after h)) parts.dim dim ≡ Some sub
       → next h entry ≡ with_grant (grant_to entry.user dim sub) (after h) → Change parts h entry
-  drains : (cube : HeldCube) → cube_held_by (after h) entry.user ≡ Some cube → next h entry ≡ with_drained entry.user (after h) → Change parts h entry
+  drains : (cube : HeldCube) → cube_held_by (after h) entry.user ≡ Some cube → next h entry ≡ with_drained_cube entry.user (after h) → Change parts h entry
   frees : (cube : HeldCube) → cube_held_by (after h) entry.user ≡ Some cube → cube.is_drained ≡ true → next h entry ≡ without_cube entry.user (after h) → Change parts h entry
   -- a call of a cube
   calls : (call : Call) (cube : HeldCube) → cube_held_by (after h) entry.user ≡ Some cube → IsCallOf parts h entry.actor call cube
       → answer (nodes_of cube.grant) (cube_standing (after h) cube) entry.actor (with_places_outward cube.grant call) ≡ entry.what
-      → next h entry ≡ with_cube entry.user (cube_after_entry entry) (λ cube. record_by cube.grant.sub entry) (after h) → Change parts h entry
+      → next h entry ≡ with_cube entry.user (cube_after_entry entry) (λ cube. record_after_entry cube.grant.sub entry) (after h) → Change parts h entry
 
 some_what : (x y : What) → Some x ≡ Some y → x ≡ y
 some_what x y e = ap (λ o. elim o [ None ↦ x | Some z ↦ z ]) e
@@ -46,7 +46,7 @@ module _ (parts : MachineParts) (h : List Entry) (entry : Entry) where
   by_what : (what : What) → Some what ≡ Some entry.what → next h entry ≡ state_after_entry (after h) (entry_of entry.user entry.actor what)
   by_what what e = after-more h entry ∙ ap (λ what. state_after_entry (after h) (entry_of entry.user entry.actor what)) (sym (some_what what entry.what e))
 
-  by_found : (dim : ℕ) (found : Option Subcube) → first_free (is_free (after h)) parts.dim dim ≡ found → cube_held_by (after h) entry.user ≡ None
+  by_found : (dim : ℕ) (found : Option Subcube) → first_free_subcube (is_free (after h)) parts.dim dim ≡ found → cube_held_by (after h) entry.user ≡ None
       → Some (Getcube dim found) ≡ Some entry.what → Change parts h entry
   by_found dim None is none e = nothing (by_what (Getcube dim None) e)
   by_found dim (Some sub) is none e = grants dim sub none is (by_what (Getcube dim (Some sub)) e)
@@ -73,11 +73,11 @@ module _ (parts : MachineParts) (h : List Entry) (entry : Entry) where
 
   by_request : (request : Request) → IsFittingIn parts h entry.user entry.actor request → what_of_request parts (after h) entry.user entry.actor request ≡ Some entry.what
       → Change parts h entry
-  by_request (getcube dim) fits e = by_found dim (first_free (is_free (after h)) parts.dim dim) refl fits.2 e
+  by_request (getcube dim) fits e = by_found dim (first_free_subcube (is_free (after h)) parts.dim dim) refl fits.2 e
   by_request peek fits e = nothing (by_what Peek e)
   by_request drain fits e = by_drained (cube_held_by (after h) entry.user) refl fits.1 e
   by_request freecube fits e = by_freed (cube_held_by (after h) entry.user) refl fits.1 e
-  by_request (in_cube call) fits e = by_called call (cube_held_by (after h) entry.user) refl fits e
+  by_request (cube_request call) fits e = by_called call (cube_held_by (after h) entry.user) refl fits e
 
   pub change-of : IsLawfulEntry parts h entry → Change parts h entry
   change-of lawful = by_request lawful.request lawful.fits.1 lawful.answer

@@ -8,7 +8,7 @@ use Rattle.ce_model.specs.Blocks.{Block}
 use Rattle.ce_model.specs.Parcels.{Item, item_parcels}
 use Rattle.ce_model.specs.Trace.{NodeRecord}
 use Rattle.ce_model.specs.Subcubes.{is_inside}
-use Rattle.ce_model.specs.Machine.{MachineParts, IsMachine, HeldCube, MachineState, cube_held_by, nodes_of, all_parcels, record_by, cube_after_entry, after, IsLawfulEntry, IsLawful}
+use Rattle.ce_model.specs.Machine.{MachineParts, IsMachine, HeldCube, MachineState, cube_held_by, nodes_of, all_parcels, record_after_entry, cube_after_entry, after, IsLawfulEntry, IsLawful}
 use Rattle.ce_model.proofs.Walked.{kept_by_each, each-more}
 use Rattle.ce_solo.proofs.Items.{among-append}
 use Rattle.ce_solo.proofs.Projection.Held.{held-own, record-own, granted-own, left-own}
@@ -42,18 +42,18 @@ module _ (parts : MachineParts) (machine : IsMachine parts) (h : List Entry) (en
       absurd (both_ways _ (ap (λ (c : HeldCube). c.is_drained) (sym same)) drained)
   own-empty (drains was holds e) cube held drained =
       let change : HeldCube → HeldCube = λ cube. record cube { is_drained = true; mail = [] } in
-      let change_record : HeldCube → ℕ → NodeRecord → NodeRecord = λ cube node kept. record kept { waiting_items = [] } in
+      let change_record : HeldCube → ℕ → NodeRecord → NodeRecord = λ cube node node_record. record node_record { waiting_items = [] } in
       let now = held-own entry.user change (λ cube. refl) change_record (after h) was holds in
       let same = same_cube (change was) cube (sym now ∙ ap (λ state. cube_held_by state entry.user) (sym e) ∙ held) in
       subst (IsEmpty (next h entry)) same (record {
         mail = refl;
         nodes = λ node inside. ap (λ (state : MachineState). (state.node_record node).waiting_items) e
-            ∙ ap (λ (kept : NodeRecord). kept.waiting_items) (record-own change_record node ((after h).node_record node) (cube_held_by (after h) entry.user) was holds inside);
+            ∙ ap (λ (node_record : NodeRecord). node_record.waiting_items) (record-own change_record node ((after h).node_record node) (cube_held_by (after h) entry.user) was holds inside);
       })
   own-empty (frees was holds drained_was e) cube held drained =
       let none : None ≡ Some cube = sym (left-own entry.user (after h)) ∙ ap (λ state. cube_held_by state entry.user) (sym e) ∙ held in absurd (cc)
   own-empty (calls call was holds fits what e) cube held drained =
-      let now = held-own entry.user (cube_after_entry entry) (λ cube. refl) (λ cube. record_by cube.grant.sub entry) (after h) was holds in
+      let now = held-own entry.user (cube_after_entry entry) (λ cube. refl) (λ cube. record_after_entry cube.grant.sub entry) (after h) was holds in
       let same = same_cube (cube_after_entry entry was) cube (sym now ∙ ap (λ state. cube_held_by state entry.user) (sym e) ∙ held) in
       absurd (both_ways _ (ap (λ (c : HeldCube). c.is_drained) (sym same) ∙ fits.not_drained) drained)
 
@@ -64,7 +64,7 @@ module _ (parts : MachineParts) (machine : IsMachine parts) (h : List Entry) (en
       record {
         mail = was.mail;
         nodes = λ node inside.
-            ap (λ (kept : NodeRecord). kept.waiting_items) (step.records node (λ own holds.
+            ap (λ (node_record : NodeRecord). node_record.waiting_items) (step.records node (λ own holds.
             elim (cases_Bool (is_inside own.grant.sub node)) [
               | inl both ↦ absurd (both_ways _ (before.apart entry.user user own cube differ holds held_was node both) inside)
               | inr outside ↦ outside

@@ -1,4 +1,5 @@
--- What one entry more makes of the machine's state, point by point: which cubes are held, how each stands, and what is kept for each node.
+-- What one entry more makes of the machine's state, point by point: which cubes are held, how each
+-- stands, and what is kept for each node.
 use Rattle.std.proofs.Common.{◌≡◌, ℕ, true, false, ◌==◌, if◌then◌else◌, List, [], Some, None, refl, ap, sym, ◌∙◌, subst}
 use Rattle.ce_model.specs.declared.topology.Subcube.{Subcube}
 use Rattle.ce_model.specs.declared.entry.Entry.{Entry}
@@ -7,11 +8,12 @@ use Rattle.ce_model.specs.Node.{Call}
 use Rattle.ce_model.specs.Trace.{NodeRecord, blank_record}
 use Rattle.ce_model.specs.Answers.{recorded_call}
 use Rattle.ce_model.specs.Subcubes.{is_inside}
-use Rattle.ce_model.specs.Machine.{HeldCube, MachineState, is_held_by, cube_held_by, held_grants, record_by, cube_after_entry, with_cube, with_grant, with_drained, without_cube, state_after_call, after}
+use Rattle.ce_model.specs.Machine.{HeldCube, MachineState, is_held_by, cube_held_by, held_grants, record_after_entry, cube_after_entry, with_cube, with_grant, with_drained_cube, without_cube, state_after_call, after}
 use Rattle.ce_solo.proofs.Projection.Held.{held-own, held-other, record-own, record-other, granted-own, granted-other, left-own, left-other}
-use Rattle.ce_solo.proofs.Projection.Kinds.{entry_of, drained_cube, drained_record}
+use Rattle.ce_model.specs.Literals.{entry_of}
+use Rattle.ce_solo.proofs.Projection.Kinds.{drained_cube, drained_record}
 use Rattle.ce_solo.proofs.Projection.Law.{after-more}
-pub use Rattle.ce_machine.specs.Keeping.{grant_of, grants-kept, grant-found, grants-stay}
+pub use Rattle.ce_machine.specs.Keeping.{number_and_grant, grants-kept, grant-found, grants-stay}
 use Rattle.ce_machine.proofs.Changes.{grant_to, next}
 
 -- ---- the grants that are held
@@ -23,7 +25,7 @@ module _ (h : List Entry) (entry : Entry) (call : Call) (called : recorded_call 
   change cube = cube_after_entry entry cube
 
   abbrev change_record : HeldCube → ℕ → NodeRecord → NodeRecord
-  change_record cube = record_by cube.grant.sub entry
+  change_record cube = record_after_entry cube.grant.sub entry
 
   pub call-state : next h entry ≡ with_cube entry.user change change_record (after h)
   call-state = after-more h entry ∙ ap (λ call. state_after_call call entry (after h)) called
@@ -41,7 +43,7 @@ module _ (h : List Entry) (entry : Entry) (call : Call) (called : recorded_call 
   call-other user other = ap (λ s. cube_held_by s user) call-state ∙ held-other entry.user change (λ cube. refl) change_record (after h) user other
 
   pub call-inside : (cube : HeldCube) (node : ℕ) → cube_held_by (after h) entry.user ≡ Some cube → is_inside cube.grant.sub node ≡ true
-      → (next h entry).node_record node ≡ record_by cube.grant.sub entry node ((after h).node_record node)
+      → (next h entry).node_record node ≡ record_after_entry cube.grant.sub entry node ((after h).node_record node)
   call-inside cube node holds inside =
       ap (λ (s : MachineState). s.node_record node) call-state
       ∙ record-own change_record node ((after h).node_record node) (cube_held_by (after h) entry.user) cube holds inside
@@ -86,7 +88,7 @@ module _ (h : List Entry) (user actor : ℕ) where
   abbrev draining : Entry
   draining = entry_of user actor Drain
 
-  pub drain-state : next h draining ≡ with_drained user (after h)
+  pub drain-state : next h draining ≡ with_drained_cube user (after h)
   drain-state = after-more h draining
 
   pub drain-count : (next h draining).grant_count ≡ (after h).grant_count

@@ -15,7 +15,7 @@ use Rattle.ce_model.specs.Machine.{MachineParts, MachineState, HeldCube, cube_he
 use Rattle.ce_model.specs.Renaming.{CubeGrant}
 use Rattle.ce_solo.proofs.Renaming.Grants.{few_nodes}
 use Rattle.ce_solo.proofs.Projection.Numbers.{IsPlaced}
-use Rattle.ce_solo.proofs.Projection.Kinds.{entry_of}
+use Rattle.ce_model.specs.Literals.{entry_of}
 use Rattle.ce_solo.proofs.Projection.Law.{projected}
 use Rattle.ce_lock.specs.declared.who.Who.{Who}
 use Rattle.ce_daemon.specs.declared.grant.Grant.{Grant}
@@ -89,20 +89,20 @@ if-held state user P cube holds is = subst (λ (held : Option HeldCube). IsSomeA
 pub record SoundMachine : Type 0 where
   pub parts : MachineParts
   pub history : List Entry
-  pub holding : GrantTable
+  pub table : GrantTable
   pub desks : List NodeRecord
   pub hosts : List HostRecord
-  pub sound : IsSoundMachine parts history holding desks hosts
+  pub sound : IsSoundMachine parts history table desks hosts
   pub few : length history < greatest_history
 
 -- as the code of a call has it at hand
-abbrev pub begun : {parts : MachineParts} {h : List Entry} {holding : GrantTable} {desks : List NodeRecord} {hosts : List HostRecord} → IsSoundMachine parts h holding desks hosts
+abbrev pub sound_machine : {parts : MachineParts} {h : List Entry} {table : GrantTable} {desks : List NodeRecord} {hosts : List HostRecord} → IsSoundMachine parts h table desks hosts
     → length h < greatest_history → SoundMachine
-begun {parts} {h} {holding} {desks} {hosts} sound few =
-    record { parts = parts; history = h; holding = holding; desks = desks; hosts = hosts; sound = sound; few = few }
+sound_machine {parts} {h} {table} {desks} {hosts} sound few =
+    record { parts = parts; history = h; table = table; desks = desks; hosts = hosts; sound = sound; few = few }
 
 module _ (m : SoundMachine) where
-  open m use {parts, history as h, holding, desks, hosts, sound, few}
+  open m use {parts, history as h, table, desks, hosts, sound, few}
 
   pub node-below : (node : ℕ) → node < 2 ^ parts.dim → (node == HOST) ≡ false
   node-below node below = ne_eqb node HOST (λ e. omega (arith, few_nodes parts.dim sound.machine.dim))
@@ -114,9 +114,9 @@ module _ (m : SoundMachine) where
   pub host-held : (user : ℕ) (cube : HeldCube) → user < parts.users → cube_held_by (after h) user ≡ Some cube → host_at hosts user ≡ cube_host (Some cube)
   host-held user cube below holds = sound.tables.host_is user below ∙ ap cube_host holds
 
-  same_count : (state' : MachineState) → state'.grant_count ≡ (after h).grant_count → held_grants state' ≡ held_grants (after h) → holding ≡ grant_table parts.dim state'
+  same_count : (state' : MachineState) → state'.grant_count ≡ (after h).grant_count → held_grants state' ≡ held_grants (after h) → table ≡ grant_table parts.dim state'
   same_count state' count grants =
-      sound.tables.holding_is ∙ sym (λ i. record { dim = parts.dim; count = count i; grants = map numbered_grant (grants i) })
+      sound.tables.table_is ∙ sym (λ i. record { dim = parts.dim; count = count i; grants = map numbered_grant (grants i) })
 
   pub few-desks : length desks ≤ HOST
   few-desks = omega (arith, sound.tables.desk_count, few_nodes parts.dim sound.machine.dim)
@@ -141,14 +141,14 @@ module _ (m : SoundMachine) where
       ]
 
   -- the grant of a cube that a user holds
-  pub grant-known : (user : ℕ) (cube : HeldCube) → cube_held_by (after h) user ≡ Some cube → daemon.grant_held_by holding user ≡ Some (grant_held cube)
+  pub grant-known : (user : ℕ) (cube : HeldCube) → cube_held_by (after h) user ≡ Some cube → daemon.grant_held_by table user ≡ Some (grant_held cube)
   grant-known user cube holds =
-      ap (λ held. daemon.grant_held_by held user) sound.tables.holding_is ∙ held-same parts.dim (after h) user ∙ ap (option_map grant_held) holds
+      ap (λ held. daemon.grant_held_by held user) sound.tables.table_is ∙ held-same parts.dim (after h) user ∙ ap (option_map grant_held) holds
 
-  pub grant-is : (user : ℕ) (cube : HeldCube) (grant : Grant) → cube_held_by (after h) user ≡ Some cube → daemon.grant_held_by holding user ≡ Some grant → grant ≡ grant_held cube
+  pub grant-is : (user : ℕ) (cube : HeldCube) (grant : Grant) → cube_held_by (after h) user ≡ Some cube → daemon.grant_held_by table user ≡ Some grant → grant ≡ grant_held cube
   grant-is user cube grant holds found = let same : Some grant ≡ Some (grant_held cube) = sym found ∙ grant-known user cube holds in cc
 
-  pub has-grant : (user : ℕ) (cube : HeldCube) → cube_held_by (after h) user ≡ Some cube → IsSome (daemon.grant_held_by holding user)
+  pub has-grant : (user : ℕ) (cube : HeldCube) → cube_held_by (after h) user ≡ Some cube → IsSome (daemon.grant_held_by table user)
   has-grant user cube holds = subst IsSome (sym (grant-known user cube holds)) refl
 
   -- its nodes have desks
@@ -169,13 +169,13 @@ module _ (m : SoundMachine) where
   agree-on f grant at (r ∷ rs) = (ap f (sound.tables.desk_is (node_of grant.sub r) (placed-node parts.dim grant at r)), agree-on f grant at rs)
 
   -- the tables once the cube of one user changed
-  pub tables-user : (state' : MachineState) (holding' : GrantTable) (desks' : List NodeRecord) (hosts' : List HostRecord) (user : ℕ) (host' : HostRecord)
-      → holding' ≡ grant_table parts.dim state' → length desks' ≡ length desks
+  pub tables-user : (state' : MachineState) (table' : GrantTable) (desks' : List NodeRecord) (hosts' : List HostRecord) (user : ℕ) (host' : HostRecord)
+      → table' ≡ grant_table parts.dim state' → length desks' ≡ length desks
       → ((node : ℕ) → node < 2 ^ parts.dim → (node == HOST) ≡ false → desk_at desks' node ≡ state'.node_record node)
       → IsSet hosts hosts' user host' → host' ≡ cube_host (cube_held_by state' user)
-      → ((other : ℕ) → (user == other) ≡ false → cube_held_by state' other ≡ cube_held_by (after h) other) → AreTables parts state' holding' desks' hosts'
-  tables-user state' holding' desks' hosts' user host' holding_now count each is host_is others = record {
-    holding_is = holding_now;
+      → ((other : ℕ) → (user == other) ≡ false → cube_held_by state' other ≡ cube_held_by (after h) other) → AreTables parts state' table' desks' hosts'
+  tables-user state' table' desks' hosts' user host' table_now count each is host_is others = record {
+    table_is = table_now;
     desk_count = count ∙ sound.tables.desk_count;
     desk_is = λ node below. each node below (node-below node below);
     host_count = is.count ∙ sound.tables.host_count;
@@ -190,10 +190,10 @@ module _ (m : SoundMachine) where
       (host' : HostRecord) → length desks' ≡ length desks
       → ((node : ℕ) → node < 2 ^ parts.dim → (node == HOST) ≡ false → desk_at desks' node ≡ (next h (entry_of user actor what)).node_record node)
       → IsSet hosts hosts' user host' → cube_held_by (next h (entry_of user actor what)) user ≡ Some cube' → host' ≡ cube_host (Some cube')
-      → AreTables parts (next h (entry_of user actor what)) holding desks' hosts'
+      → AreTables parts (next h (entry_of user actor what)) table desks' hosts'
   tables-call user actor what call called desks' hosts' cube' host' count each is held host_is =
       let entry = entry_of user actor what in
-      tables-user (next h entry) holding desks' hosts' user host' (same_count (next h entry) (call-count h entry call called) (call-grants h entry call called)) count each is
+      tables-user (next h entry) table desks' hosts' user host' (same_count (next h entry) (call-count h entry call called) (call-grants h entry call called)) count each is
       (host_is ∙ ap cube_host (sym held)) (λ other differ. call-other h entry call called other differ)
 
   -- the desks that stay show what the entry leaves, where it changes no node
@@ -219,12 +219,12 @@ module _ (m : SoundMachine) where
     more-lawful = more_is_lawful home clean parts h made who call sound.lawful fits answer refl
 
     module _ (h' : List Entry) (is : h' ≡ h ++ entry_of who.family who.actor what ∷ []) where
-      pub sound-more : (holding' : GrantTable) (desks' : List NodeRecord) (hosts' : List HostRecord) → AreTables parts (next h (entry_of who.family who.actor what)) holding' desks' hosts'
-          → IsSoundMachine parts h' holding' desks' hosts'
-      sound-more holding' desks' hosts' tables = record {
+      pub sound-more : (table' : GrantTable) (desks' : List NodeRecord) (hosts' : List HostRecord) → AreTables parts (next h (entry_of who.family who.actor what)) table' desks' hosts'
+          → IsSoundMachine parts h' table' desks' hosts'
+      sound-more table' desks' hosts' tables = record {
         machine = sound.machine;
         lawful = subst (IsLawful parts) (sym is) more-lawful;
-        tables = subst (λ l. AreTables parts (after l) holding' desks' hosts') (sym is) tables;
+        tables = subst (λ l. AreTables parts (after l) table' desks' hosts') (sym is) tables;
       }
 
       pub has-answered : (reply : Reply N) → IsReplyTo home clean parts (after h) who.family who.actor what reply
@@ -239,22 +239,22 @@ module _ (m : SoundMachine) where
       }
 
 -- the machine is sound, whose dimension is the daemon's, and has answered the call
-pub record IsDone {N : Type 0} (home : N → ℕ) (clean : N → Type 0) (m : SoundMachine) (h' : List Entry) (holding' : GrantTable) (desks' : List NodeRecord)
+pub record HasMadeEntry {N : Type 0} (home : N → ℕ) (clean : N → Type 0) (m : SoundMachine) (h' : List Entry) (table' : GrantTable) (desks' : List NodeRecord)
     (hosts' : List HostRecord) (who : Who) (call : Call N) (reply : Reply N) : Type 0 where
-  pub sound : IsSoundMachine (record m.parts { dim = holding'.dim }) h' holding' desks' hosts'
-  pub answered : HasAnswered home clean (record { parts = m.parts; history = m.history }) (record { parts = record m.parts { dim = holding'.dim }; history = h' }) who call reply
+  pub sound : IsSoundMachine (record m.parts { dim = table'.dim }) h' table' desks' hosts'
+  pub answered : HasAnswered home clean (record { parts = m.parts; history = m.history }) (record { parts = record m.parts { dim = table'.dim }; history = h' }) who call reply
 
 module _ (m : SoundMachine) (who : Who) {N : Type 0} {home : N → ℕ} {clean : N → Type 0} where
   open m use {parts, history as h}
 
   pub done-with : {h' : List Entry} {call : Call N} (reply : Reply N) (what : What) → IsFittingCall home clean parts h who call
       → what_of_request parts (after h) who.family who.actor (request_of call) ≡ Some what → IsReplyTo home clean parts (after h) who.family who.actor what reply
-      → h' ≡ h ++ entry_of who.family who.actor what ∷ [] → {holding' : GrantTable} {desks' : List NodeRecord} {hosts' : List HostRecord}
-      → AreTables parts (next h (entry_of who.family who.actor what)) holding' desks' hosts' → IsDone home clean m h' holding' desks' hosts' who call reply
-  done-with {h'} {call} reply what fits answer reply_is is {holding'} {desks'} {hosts'} tables =
-      let same : parts.dim ≡ holding'.dim = sym (ap (λ (held : GrantTable). held.dim) tables.holding_is) in
+      → h' ≡ h ++ entry_of who.family who.actor what ∷ [] → {table' : GrantTable} {desks' : List NodeRecord} {hosts' : List HostRecord}
+      → AreTables parts (next h (entry_of who.family who.actor what)) table' desks' hosts' → HasMadeEntry home clean m h' table' desks' hosts' who call reply
+  done-with {h'} {call} reply what fits answer reply_is is {table'} {desks'} {hosts'} tables =
+      let same : parts.dim ≡ table'.dim = sym (ap (λ (held : GrantTable). held.dim) tables.table_is) in
       record {
-        sound = subst (λ dim. IsSoundMachine (record parts { dim = dim }) h' holding' desks' hosts') same (sound-more m home clean who call fits what answer h' is holding' desks' hosts' tables);
+        sound = subst (λ dim. IsSoundMachine (record parts { dim = dim }) h' table' desks' hosts') same (sound-more m home clean who call fits what answer h' is table' desks' hosts' tables);
         answered = subst (λ dim. HasAnswered home clean (record { parts = parts; history = h }) (record { parts = record parts { dim = dim }; history = h' }) who call reply) same
             (has-answered m home clean who call fits what answer h' is reply reply_is);
       }

@@ -16,16 +16,16 @@ use Rattle.ce_model.specs.Node as model_node
 use Rattle.ce_model.specs.Node.{arm_call, look_call, mail_call}
 use Rattle.ce_model.specs.Trace.{NodeRecord, blank_record}
 use Rattle.ce_model.specs.Answers.{is_quiet_node, look_result_where, recorded_call}
-use Rattle.ce_model.specs.Subcubes.{node_of, first_free}
+use Rattle.ce_model.specs.Subcubes.{node_of, first_free_subcube}
 use Rattle.ce_model.specs.Sound.{IsHostItem}
 use Rattle.ce_model.specs.Machine.{MachineState, HeldCube, cube_held_by, held_grants, is_free, nodes_of, all_parcels, after, what_of_request, IsCallOf}
-use Rattle.ce_solo.proofs.Projection.Kinds.{entry_of}
+use Rattle.ce_model.specs.Literals.{entry_of}
 use Rattle.ce_lock.specs.declared.who.Who.{Who}
 use Rattle.ce_model.proofs.Subcubes.{is_inside-node_of}
 use Rattle.std.specs.Global.{Vec}
 use Rattle.ce_daemon.specs.declared.grant.Grant.{Grant}
 use Rattle.ce_daemon.specs.declared.grant.PeekResult.{PeekResult}
-use Rattle.ce_daemon.specs.Boxes.{AreBoxesOf}
+use Rattle.ce_daemon.specs.Boxes.{AreGrantBoxes}
 use Rattle.ce_daemon.specs.Holding.{GrantTable, next_grant}
 use Rattle.ce_daemon.specs.Holding as daemon
 use Rattle.ce_daemon.specs.Peeks.{numbered_grant, peek_result}
@@ -36,20 +36,20 @@ use Rattle.ce_machine.specs.declared.call.Call.TheVariants as calls
 use Rattle.ce_machine.specs.declared.call.Reply.{Reply}
 use Rattle.ce_machine.specs.declared.call.Reply.TheVariants as replies
 use Rattle.ce_machine.specs.Requests.{request_of, IsFittingCall}
-use Rattle.ce_machine.specs.Replies.{IsReplyTo, found_reply, IsMail, IsDrained}
+use Rattle.ce_machine.specs.Replies.{IsReplyTo, look_reply, IsMailReply, IsDrainReply}
 use Rattle.ce_machine.specs.Tables.{HostRecord, blank_host, cube_host, desk_at, host_at, grant_table, AreTables}
 use Rattle.ce_machine.specs.Desks.{AreChanged, change_at_nodes, without_items, IsOnDesks}
 use Rattle.ce_machine.proofs.Changes.{next}
 use Rattle.ce_machine.proofs.Effects as effects
-use Rattle.ce_machine.proofs.Holdings.{grant_held, held-same, free-same, grant-holding, free-holding, same-holding, placed-node}
+use Rattle.ce_machine.proofs.Holdings.{grant_held, held-same, free-same, table-with-grant, table-without-user, table-stays, placed-node}
 use Rattle.ce_machine.proofs.Drained.{drained-empty, all-blocks, flat_map-same, list_all-same}
 use Rattle.ce_machine.proofs.QueueRoom.{cube-limits}
 use Rattle.ce_machine.proofs.Answered.{call-answered, arm-answer}
 use Rattle.ce_machine.proofs.Acted as acted
-use Rattle.ce_machine.proofs.Entries.{SoundMachine, IsIn, is-in, if-held, IsSet, host-set, host-same, host-read, host-held, user-below, placed, grant-known, grant-is, has-grant, on-desks, agree-on, desks-same, desks-changed, tables-user, tables-call, IsDone, done-with}
+use Rattle.ce_machine.proofs.Entries.{SoundMachine, IsIn, is-in, if-held, IsSet, host-set, host-same, host-read, host-held, user-below, placed, grant-known, grant-is, has-grant, on-desks, agree-on, desks-same, desks-changed, tables-user, tables-call, HasMadeEntry, done-with}
 
 module _ (m : SoundMachine) (who : Who) where
-  open m use {parts, history as h, holding, desks, hosts, sound, few}
+  open m use {parts, history as h, table, desks, hosts, sound, few}
   open who use {family as user, actor}
 
   abbrev now : What → MachineState
@@ -60,10 +60,10 @@ module _ (m : SoundMachine) (who : Who) where
   host-was host cube below read holds =
       host-read hosts user host (user-below m user below) read ∙ host-held m user cube below holds
 
-  first_is : (dim : ℕ) (sub : Option Subcube) → sub ≡ first_free (daemon.is_ungranted holding) holding.dim dim → first_free (is_free (after h)) parts.dim dim ≡ sub
+  first_is : (dim : ℕ) (sub : Option Subcube) → sub ≡ first_free_subcube (daemon.is_ungranted table) table.dim dim → first_free_subcube (is_free (after h)) parts.dim dim ≡ sub
   first_is dim sub e =
-      sym (e ∙ ap (λ (held : GrantTable). first_free (daemon.is_ungranted held) held.dim dim) sound.tables.holding_is
-      ∙ ap (λ test. first_free test parts.dim dim) (free-same parts.dim (after h)))
+      sym (e ∙ ap (λ (held : GrantTable). first_free_subcube (daemon.is_ungranted held) held.dim dim) sound.tables.table_is
+      ∙ ap (λ test. first_free_subcube test parts.dim dim) (free-same parts.dim (after h)))
 
   module _ {N : Type 0} {home : N → ℕ} {clean : N → Type 0} where
     -- a call of a cube that leaves all desks as they are
@@ -71,14 +71,14 @@ module _ (m : SoundMachine) (who : Who) where
         → what_of_request parts (after h) who.family who.actor (request_of call) ≡ Some what → ((node : ℕ) → (node == HOST) ≡ false → (now what).node_record node ≡ (after h).node_record node)
         → {hosts' : List HostRecord} {cube' : HeldCube} {host' : HostRecord} → IsSet hosts hosts' who.family host' → cube_held_by (now what) who.family ≡ Some cube' → host' ≡ cube_host (Some cube')
         → IsReplyTo home clean parts (after h) who.family who.actor what reply → h' ≡ h ++ entry_of who.family who.actor what ∷ []
-        → IsDone home clean m h' holding desks hosts' who call reply
+        → HasMadeEntry home clean m h' table desks hosts' who call reply
     still reply what made called fits answer each {hosts'} {cube'} {host'} set held host_is reply_is is =
         done-with m who reply what fits answer reply_is is
         (tables-call m user actor what made called desks hosts' cube' host' refl (desks-same m (now what) each) set held host_is)
 
     pub armed : {h' : List Entry} {count : ℕ} {host host' : HostRecord} → IsFittingCall home clean parts h who (calls.Arm count) → host ≡ get_or hosts who.family host
         → host' ≡ record host { allowed_dispatches = count; made_dispatches = 0 } → h' ≡ h ++ entry_of who.family who.actor (whats.Arm count) ∷ []
-        → IsDone home clean m h' holding desks (set hosts who.family host') who (calls.Arm count) replies.Armed
+        → HasMadeEntry home clean m h' table desks (set hosts who.family host') who (calls.Arm count) replies.Armed
     armed {count = count} {host} {host'} fits read changed is =
         let what = whats.Arm count in
         let in_cube = is-in h user (IsCallOf parts h actor (arm_call count)) fits.fits.1 in
@@ -93,10 +93,10 @@ module _ (m : SoundMachine) (who : Who) where
     pub looking : IsFittingCall home clean parts h who calls.Look → IsIn h who.family (IsCallOf parts h who.actor look_call)
     looking fits = is-in h user (IsCallOf parts h actor look_call) fits.fits.1
 
-    pub looked : {h' : List Entry} {found : LookResult} {grant : Grant} {host : HostRecord} {reply : Reply N} → IsFittingCall home clean parts h who calls.Look → daemon.grant_held_by holding who.family ≡ Some grant
+    pub looked : {h' : List Entry} {found : LookResult} {grant : Grant} {host : HostRecord} {reply : Reply N} → IsFittingCall home clean parts h who calls.Look → daemon.grant_held_by table who.family ≡ Some grant
         → host ≡ get_or hosts who.family host
-        → found ≡ look_result_where (list_all (λ node. is_quiet_node (desk_at desks node)) (map (node_of grant.sub) (range_with_len 0 (2 ^ grant.dim)))) (host.made_dispatches == host.allowed_dispatches) → reply ≡ found_reply found
-        → h' ≡ h ++ entry_of who.family who.actor (whats.Look found) ∷ [] → IsDone home clean m h' holding desks hosts who calls.Look reply
+        → found ≡ look_result_where (list_all (λ node. is_quiet_node (desk_at desks node)) (map (node_of grant.sub) (range_with_len 0 (2 ^ grant.dim)))) (host.made_dispatches == host.allowed_dispatches) → reply ≡ look_reply found
+        → h' ≡ h ++ entry_of who.family who.actor (whats.Look found) ∷ [] → HasMadeEntry home clean m h' table desks hosts who calls.Look reply
     looked {h'} {found} {grant} {host} {reply} fits known read found_is reply_is is =
         let in_cube = looking fits in
         let cube = in_cube.cube in
@@ -108,7 +108,7 @@ module _ (m : SoundMachine) (who : Who) where
         (list_all-same (λ node. is_quiet_node (desk_at desks node)) (λ node. is_quiet_node ((after h).node_record node)) (nodes_of cube.grant)
         (agree-on m is_quiet_node cube.grant (placed m user cube in_cube.holds) nodes))
         (ap (λ (host : HostRecord). host.made_dispatches == host.allowed_dispatches) (host-was host cube fits.fits.0 read in_cube.holds)) in
-        let P : LookResult → Type 0 = λ found. reply ≡ found_reply found → h' ≡ h ++ entry_of who.family who.actor (whats.Look found) ∷ [] → IsDone home clean m h' holding desks hosts who calls.Look reply in
+        let P : LookResult → Type 0 = λ found. reply ≡ look_reply found → h' ≡ h ++ entry_of who.family who.actor (whats.Look found) ∷ [] → HasMadeEntry home clean m h' table desks hosts who calls.Look reply in
         let f = acted.found parts sound.machine h sound.lawful user cube in_cube.holds actor in_cube.is in
         let done : P f = λ replied is. still reply (whats.Look f) look_call refl fits
         (call-answered (after h) cube actor parts user look_call in_cube.holds ∙ ap Some (acted.looked parts sound.machine h sound.lawful user cube in_cube.holds actor in_cube.is))
@@ -136,7 +136,7 @@ module _ (m : SoundMachine) (who : Who) where
     pub mail_taken : {h' : List Entry} (parcel : Parcel) {host host' : HostRecord} → IsFittingCall home clean parts h who calls.HostTake → host ≡ get_or hosts who.family host
         → host.mail ≡ model.mail (parcel_of parcel) ∷ host'.mail → host' ≡ record host { mail = host'.mail }
         → h' ≡ h ++ entry_of who.family who.actor (whats.HostTake (Some parcel.number)) ∷ []
-        → IsDone home clean m h' holding desks (set hosts who.family host') who calls.HostTake (replies.Mail parcel)
+        → HasMadeEntry home clean m h' table desks (set hosts who.family host') who calls.HostTake (replies.Mail parcel)
     mail_taken parcel {host} {host'} fits read first changed is =
         let in_cube = is-in h user (IsCallOf parts h actor mail_call) fits.fits.1 in
         let cube = in_cube.cube in
@@ -151,12 +151,12 @@ module _ (m : SoundMachine) (who : Who) where
         (host-set hosts user host' host' below refl)
         (acted.mail_taken-cube parts sound.machine h sound.lawful user cube in_cube.holds actor in_cube.is (parcel_of parcel) host'.mail mail)
         (changed ∙ ap (λ (host : HostRecord). record host { mail = host'.mail }) was)
-        (if-held (after h) user (λ cube. IsMail {N = N} parcel.number cube.mail (replies.Mail parcel)) cube in_cube.holds at) is
+        (if-held (after h) user (λ cube. IsMailReply {N = N} parcel.number cube.mail (replies.Mail parcel)) cube in_cube.holds at) is
 
     pub no_mail : {h' : List Entry} {host host' : HostRecord} → IsFittingCall home clean parts h who calls.HostTake → host ≡ get_or hosts who.family host
         → host.mail ≡ [] → host.mail ≡ host'.mail → host' ≡ record host { mail = host'.mail }
         → h' ≡ h ++ entry_of who.family who.actor (whats.HostTake None) ∷ []
-        → IsDone home clean m h' holding desks (set hosts who.family host') who calls.HostTake replies.NoMail
+        → HasMadeEntry home clean m h' table desks (set hosts who.family host') who calls.HostTake replies.NoMail
     no_mail {host = host} {host'} fits read none stays changed is =
         let in_cube = is-in h user (IsCallOf parts h actor mail_call) fits.fits.1 in
         let cube = in_cube.cube in
@@ -174,49 +174,49 @@ module _ (m : SoundMachine) (who : Who) where
     -- ---- what is made alone
 
     pub peeked_done : {h' : List Entry} {shown : PeekResult} → IsFittingCall home clean parts h who calls.Peek
-        → shown.free ≡ count_by (daemon.is_ungranted holding) (range_with_len 0 (2 ^ holding.dim)) → shown.grants ≡ holding.grants
-        → h' ≡ h ++ entry_of who.family who.actor whats.Peek ∷ [] → IsDone home clean m h' holding desks hosts who calls.Peek (replies.Peeked shown)
+        → shown.free ≡ count_by (daemon.is_ungranted table) (range_with_len 0 (2 ^ table.dim)) → shown.grants ≡ table.grants
+        → h' ≡ h ++ entry_of who.family who.actor whats.Peek ∷ [] → HasMadeEntry home clean m h' table desks hosts who calls.Peek (replies.Peeked shown)
     peeked_done {shown = shown} fits free grants is =
         let state = after h in
-        let holds = sound.tables.holding_is in
+        let holds = sound.tables.table_is in
         let free_is : shown.free ≡ count_by (is_free state) (range_with_len 0 (2 ^ parts.dim)) =
         free ∙ ap (λ (held : GrantTable). count_by (daemon.is_ungranted held) (range_with_len 0 (2 ^ held.dim))) holds
         ∙ ap (λ test. count_by test (range_with_len 0 (2 ^ parts.dim))) (free-same parts.dim state) in
         let grants_are : shown.grants ≡ map numbered_grant (held_grants state) = grants ∙ ap (λ (held : GrantTable). held.grants) holds in
         let same : shown ≡ peek_result parts state = λ i. record { free = free_is i; grants = grants_are i } in
         done-with m who (replies.Peeked shown) whats.Peek fits refl (ap replies.Peeked same) is
-        (subst (λ state. AreTables parts state holding desks hosts) (sym (effects.peek-state h user actor)) sound.tables)
+        (subst (λ state. AreTables parts state table desks hosts) (sym (effects.peek-state h user actor)) sound.tables)
 
-    pub getcube_free : {dim : ℕ} → IsFittingCall home clean parts h who (calls.Getcube dim) → daemon.grant_held_by holding who.family ≡ None
+    pub getcube_free : {dim : ℕ} → IsFittingCall home clean parts h who (calls.Getcube dim) → daemon.grant_held_by table who.family ≡ None
     getcube_free fits =
-        ap (λ held. daemon.grant_held_by held user) sound.tables.holding_is ∙ held-same parts.dim (after h) user ∙ ap (option_map grant_held) fits.fits.1.2
+        ap (λ held. daemon.grant_held_by held user) sound.tables.table_is ∙ held-same parts.dim (after h) user ∙ ap (option_map grant_held) fits.fits.1.2
 
-    pub none_granted : {h' : List Entry} {dim : ℕ} {holding' : GrantTable} → IsFittingCall home clean parts h who (calls.Getcube dim) → None ≡ first_free (daemon.is_ungranted holding) holding.dim dim → holding' ≡ holding
-        → h' ≡ h ++ entry_of who.family who.actor (whats.Getcube dim None) ∷ [] → IsDone home clean m h' holding' desks hosts who (calls.Getcube dim) replies.NoneFree
+    pub none_granted : {h' : List Entry} {dim : ℕ} {table' : GrantTable} → IsFittingCall home clean parts h who (calls.Getcube dim) → None ≡ first_free_subcube (daemon.is_ungranted table) table.dim dim → table' ≡ table
+        → h' ≡ h ++ entry_of who.family who.actor (whats.Getcube dim None) ∷ [] → HasMadeEntry home clean m h' table' desks hosts who (calls.Getcube dim) replies.NoneFree
     none_granted {dim = dim} fits none same is =
         done-with m who replies.NoneFree (whats.Getcube dim None) fits
         (ap (λ found. Some (whats.Getcube dim found)) (first_is dim None none)) refl is
-        (subst (λ holding. AreTables parts (now (whats.Getcube dim None)) holding desks hosts) (sym same)
-        (subst (λ state. AreTables parts state holding desks hosts) (sym (effects.none_free-state h user actor dim)) sound.tables))
+        (subst (λ table. AreTables parts (now (whats.Getcube dim None)) table desks hosts) (sym same)
+        (subst (λ state. AreTables parts state table desks hosts) (sym (effects.none_free-state h user actor dim)) sound.tables))
 
-    pub granted : {h' : List Entry} {dim : ℕ} {grant : Grant} (boxes : Vec N) {holding' : GrantTable} → IsFittingCall home clean parts h who (calls.Getcube dim)
-        → Some grant.sub ≡ first_free (daemon.is_ungranted holding) holding.dim dim → grant ≡ next_grant holding.count who.family dim grant.sub
-        → AreBoxesOf home clean grant boxes.items → holding' ≡ daemon.table_with_grant grant holding
+    pub granted : {h' : List Entry} {dim : ℕ} {grant : Grant} (boxes : Vec N) {table' : GrantTable} → IsFittingCall home clean parts h who (calls.Getcube dim)
+        → Some grant.sub ≡ first_free_subcube (daemon.is_ungranted table) table.dim dim → grant ≡ next_grant table.count who.family dim grant.sub
+        → AreGrantBoxes home clean grant boxes.items → table' ≡ daemon.table_with_grant grant table
         → h' ≡ h ++ entry_of who.family who.actor (whats.Getcube dim (Some grant.sub)) ∷ []
-        → IsDone home clean m h' holding' desks hosts who (calls.Getcube dim) (replies.Granted grant boxes)
-    granted {dim = dim} {grant} boxes {holding'} fits first grant_is are after_is is =
+        → HasMadeEntry home clean m h' table' desks hosts who (calls.Getcube dim) (replies.Granted grant boxes)
+    granted {dim = dim} {grant} boxes {table'} fits first grant_is are after_is is =
         let state = after h in
         let sub = grant.sub in
         let what = whats.Getcube dim (Some sub) in
         let next_is : grant ≡ next_grant state.grant_count user dim sub =
-        grant_is ∙ ap (λ (held : GrantTable). next_grant held.count user dim sub) sound.tables.holding_is in
+        grant_is ∙ ap (λ (held : GrantTable). next_grant held.count user dim sub) sound.tables.table_is in
         let none : cube_held_by state user ≡ None = fits.fits.1.2 in
         done-with m who (replies.Granted grant boxes) what fits
         (ap (λ found. Some (whats.Getcube dim found)) (first_is dim (Some sub) first))
-        (next_is, subst (λ (g : Grant). AreBoxesOf home clean g boxes.items) next_is are) is
-        (tables-user m (now what) holding' desks hosts user (host_at hosts user)
-        (after_is ∙ ap₂ daemon.table_with_grant next_is sound.tables.holding_is
-        ∙ sym (grant-holding parts.dim state user dim sub) ∙ ap (grant_table parts.dim) (sym (effects.grant-state h user actor dim sub)))
+        (next_is, subst (λ (g : Grant). AreGrantBoxes home clean g boxes.items) next_is are) is
+        (tables-user m (now what) table' desks hosts user (host_at hosts user)
+        (after_is ∙ ap₂ daemon.table_with_grant next_is sound.tables.table_is
+        ∙ sym (table-with-grant parts.dim state user dim sub) ∙ ap (grant_table parts.dim) (sym (effects.grant-state h user actor dim sub)))
         refl
         (desks-same m (now what) (λ node apart. ap (λ (f : ℕ → NodeRecord). f node) (effects.grant-records h user actor dim sub)))
         (host-same hosts user)
@@ -227,12 +227,12 @@ module _ (m : SoundMachine) (who : Who) where
     draining fits = is-in h user (λ cube. cube.is_drained ≡ false) fits.fits.1.1
 
     pub drained : {h' : List Entry} {grant : Grant} {host host' : HostRecord} {desks' : List NodeRecord} {reply : Reply N} → IsFittingCall home clean parts h who calls.Drain
-        → daemon.grant_held_by holding who.family ≡ Some grant → host ≡ get_or hosts who.family host → host' ≡ record host { is_drained = true; mail = [] }
+        → daemon.grant_held_by table who.family ≡ Some grant → host ≡ get_or hosts who.family host → host' ≡ record host { is_drained = true; mail = [] }
         → AreChanged desks desks' (change_at_nodes grant.sub without_items)
         → ((parcels : List model.Parcel) → map (λ (parcel : model.Parcel). parcel.block) parcels
         ≡ map (λ (parcel : model.Parcel). parcel.block) (item_parcels (flat_map (λ node. (desk_at desks node).waiting_items) (map (node_of grant.sub) (range_with_len 0 (2 ^ grant.dim)))))
-        ++ map (λ (parcel : model.Parcel). parcel.block) (item_parcels host.mail) → IsDrained parcels reply)
-        → h' ≡ h ++ entry_of who.family who.actor whats.Drain ∷ [] → IsDone home clean m h' holding desks' (set hosts who.family host') who calls.Drain reply
+        ++ map (λ (parcel : model.Parcel). parcel.block) (item_parcels host.mail) → IsDrainReply parcels reply)
+        → h' ≡ h ++ entry_of who.family who.actor whats.Drain ∷ [] → HasMadeEntry home clean m h' table desks' (set hosts who.family host') who calls.Drain reply
     drained {grant = grant} {host} {host'} {desks'} {reply} fits known read host_changed changed replied is =
         let state = after h in
         let in_cube = draining fits in
@@ -247,12 +247,12 @@ module _ (m : SoundMachine) (who : Who) where
         all-blocks state cube
         ∙ ap₂ (λ items mail. map block (item_parcels items) ++ map block (item_parcels mail))
         (sym (ap waits grant_same ∙ flat_map-same (λ node. (desk_at desks node).waiting_items) (λ node. (state.node_record node).waiting_items) (nodes_of cube.grant)
-        (agree-on m (λ (kept : NodeRecord). kept.waiting_items) cube.grant at (range_with_len 0 (2 ^ cube.grant.dim)))))
+        (agree-on m (λ (node_record : NodeRecord). node_record.waiting_items) cube.grant at (range_with_len 0 (2 ^ cube.grant.dim)))))
         (sym (ap (λ (host : HostRecord). host.mail) was)) in
         done-with m who reply whats.Drain fits refl
-        (if-held state user (λ cube. IsDrained (all_parcels state cube) reply) cube in_cube.holds (replied (all_parcels state cube) all)) is
-        (tables-user m (now whats.Drain) holding desks' (set hosts user host') user host'
-        (sound.tables.holding_is ∙ sym (same-holding parts.dim state (now whats.Drain) (effects.drain-count h user actor) (effects.drain-grants h user actor)))
+        (if-held state user (λ cube. IsDrainReply (all_parcels state cube) reply) cube in_cube.holds (replied (all_parcels state cube) all)) is
+        (tables-user m (now whats.Drain) table desks' (set hosts user host') user host'
+        (sound.tables.table_is ∙ sym (table-stays parts.dim state (now whats.Drain) (effects.drain-count h user actor) (effects.drain-grants h user actor)))
         changed.count
         (desks-changed m (now whats.Drain) desks' (change_at_nodes grant.sub without_items) changed
         (λ node apart. effects.drain-record h user actor cube node in_cube.holds ∙ ap (λ (g : Grant). change_at_nodes g.sub without_items node (state.node_record node)) (sym grant_same)))
@@ -266,15 +266,15 @@ module _ (m : SoundMachine) (who : Who) where
       freeing : IsIn h who.family (λ cube. cube.is_drained ≡ true)
       freeing = is-in h user (λ cube. cube.is_drained ≡ true) fits.fits.1.1
 
-      pub free-has : IsSome (daemon.grant_held_by holding who.family)
+      pub free-has : IsSome (daemon.grant_held_by table who.family)
       free-has = has-grant m user freeing.cube freeing.holds
 
-      pub free-boxes : IsSomeAnd (daemon.grant_held_by holding who.family) (λ grant. AreBoxesOf home clean grant boxes.items)
+      pub free-boxes : IsSomeAnd (daemon.grant_held_by table who.family) (λ grant. AreGrantBoxes home clean grant boxes.items)
       free-boxes =
-          subst (λ (held : Option Grant). IsSomeAnd held (λ grant. AreBoxesOf home clean grant boxes.items)) (sym (grant-known m user freeing.cube freeing.holds))
-          (subst (λ (held : Option HeldCube). IsSomeAnd held (λ cube. AreBoxesOf home clean (numbered_grant (cube.number, cube.grant)) boxes.items)) freeing.holds fits.boxes)
+          subst (λ (held : Option Grant). IsSomeAnd held (λ grant. AreGrantBoxes home clean grant boxes.items)) (sym (grant-known m user freeing.cube freeing.holds))
+          (subst (λ (held : Option HeldCube). IsSomeAnd held (λ cube. AreGrantBoxes home clean (numbered_grant (cube.number, cube.grant)) boxes.items)) freeing.holds fits.boxes)
 
-      module _ {grant : Grant} (known : daemon.grant_held_by holding who.family ≡ Some grant) where
+      module _ {grant : Grant} (known : daemon.grant_held_by table who.family ≡ Some grant) where
         same_grant : grant ≡ grant_held freeing.cube
         same_grant = grant-is m user freeing.cube grant freeing.holds known
 
@@ -288,27 +288,27 @@ module _ (m : SoundMachine) (who : Who) where
             let below_cube : r < 2 ^ cube.grant.dim = subst (λ (g : Grant). r < 2 ^ g.dim) same_grant below in
             let inside = is_inside-node_of cube.grant.sub r at.sub.apart (rw at.sub.dimension below_cube) in
             subst (λ (g : Grant). (desk_at desks (node_of g.sub r)).waiting_items ≡ []) (sym same_grant)
-            (ap (λ (kept : NodeRecord). kept.waiting_items) (sound.tables.desk_is (node_of cube.grant.sub r) (placed-node parts.dim cube.grant at r))
+            (ap (λ (node_record : NodeRecord). node_record.waiting_items) (sound.tables.desk_is (node_of cube.grant.sub r) (placed-node parts.dim cube.grant at r))
             ∙ (drained-empty parts h sound.machine sound.lawful user cube freeing.holds freeing.is).nodes (node_of cube.grant.sub r) inside)
 
       pub free-mail : {host : HostRecord} → host ≡ get_or hosts who.family host → host.mail ≡ []
       free-mail {host} read =
           ap (λ (host : HostRecord). host.mail) (host-was host freeing.cube fits.fits.0 read freeing.holds) ∙ (drained-empty parts h sound.machine sound.lawful user freeing.cube freeing.holds freeing.is).mail
 
-      pub freed : {h' : List Entry} {grant : Grant} {holding' : GrantTable} {host' : HostRecord} {desks' : List NodeRecord} → daemon.grant_held_by holding who.family ≡ Some grant
-          → holding' ≡ daemon.without_user who.family holding → AreChanged desks desks' (change_at_nodes grant.sub (λ kept. blank_record)) → host' ≡ blank_host
+      pub freed : {h' : List Entry} {grant : Grant} {table' : GrantTable} {host' : HostRecord} {desks' : List NodeRecord} → daemon.grant_held_by table who.family ≡ Some grant
+          → table' ≡ daemon.without_user who.family table → AreChanged desks desks' (change_at_nodes grant.sub (λ node_record. blank_record)) → host' ≡ blank_host
           → h' ≡ h ++ entry_of who.family who.actor whats.Freecube ∷ []
-          → IsDone home clean m h' holding' desks' (set hosts who.family host') who (calls.Freecube boxes) replies.Freed
-      freed {grant = grant} {holding'} {host'} {desks'} known without changed blank is =
+          → HasMadeEntry home clean m h' table' desks' (set hosts who.family host') who (calls.Freecube boxes) replies.Freed
+      freed {grant = grant} {table'} {host'} {desks'} known without changed blank is =
           let state = after h in
           let cube = freeing.cube in
           let below = user-below m user fits.fits.0 in
           done-with m who replies.Freed whats.Freecube fits refl refl is
-          (tables-user m (now whats.Freecube) holding' desks' (set hosts user host') user host'
-          (without ∙ ap (daemon.without_user user) sound.tables.holding_is ∙ sym (free-holding parts.dim state user) ∙ ap (grant_table parts.dim) (sym (effects.free-state h user actor)))
+          (tables-user m (now whats.Freecube) table' desks' (set hosts user host') user host'
+          (without ∙ ap (daemon.without_user user) sound.tables.table_is ∙ sym (table-without-user parts.dim state user) ∙ ap (grant_table parts.dim) (sym (effects.free-state h user actor)))
           changed.count
-          (desks-changed m (now whats.Freecube) desks' (change_at_nodes grant.sub (λ kept. blank_record)) changed
-          (λ node apart. effects.free-record h user actor cube node freeing.holds ∙ ap (λ (g : Grant). change_at_nodes g.sub (λ kept. blank_record) node (state.node_record node)) (sym (same_grant known))))
+          (desks-changed m (now whats.Freecube) desks' (change_at_nodes grant.sub (λ node_record. blank_record)) changed
+          (λ node apart. effects.free-record h user actor cube node freeing.holds ∙ ap (λ (g : Grant). change_at_nodes g.sub (λ node_record. blank_record) node (state.node_record node)) (sym (same_grant known))))
           (host-set hosts user host' host' below refl)
           (blank ∙ sym (ap cube_host (effects.free-own h user actor)))
           (λ other differ. effects.free-other h user actor other differ))

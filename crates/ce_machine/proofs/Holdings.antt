@@ -1,4 +1,5 @@
--- The daemon's holding is the machine's: the grants that are held, the nodes that are free, and how an entry changes both.
+-- The daemon's table of grants is the machine's: the grants that are held, the nodes that are free,
+-- and how an entry changes both.
 use Rattle.std.proofs.Common.{◌≡◌, ℕ, ◌+◌, ◌^◌, ◌<◌, ◌≤◌, not, ◌||◌, List, [], ◌∷◌, ◌++◌, map, filter, find, option_map, refl, ap, ◌∙◌, inl, inr, arith, pow_mono}
 use Rattle.std.specs.List.{list_any}
 use Rattle.std.proofs.lemmas.Bool.{cases_Bool}
@@ -16,7 +17,7 @@ use Rattle.ce_daemon.specs.Holding as daemon
 use Rattle.ce_daemon.specs.Peeks.{numbered_grant}
 use Rattle.ce_machine.specs.Tables.{grant_table}
 use Rattle.ce_machine.proofs.Changes.{grant_to}
-use Rattle.ce_machine.proofs.Effects.{grant_of}
+use Rattle.ce_machine.proofs.Effects.{number_and_grant}
 
 -- the grants that are held, by number
 abbrev pub grants_in : MachineState → List Grant
@@ -24,13 +25,13 @@ grants_in state = map numbered_grant (held_grants state)
 
 -- the grant of a cube
 abbrev pub grant_held : HeldCube → Grant
-grant_held cube = numbered_grant (grant_of cube)
+grant_held cube = numbered_grant (number_and_grant cube)
 
 -- the daemon has the grant of the cube that a user holds
 pub held-same : (dim : ℕ) (state : MachineState) (user : ℕ) → daemon.grant_held_by (grant_table dim state) user ≡ option_map grant_held (cube_held_by state user)
 held-same dim state user = by_cubes state.cubes
   where
-    by_cubes : (cubes : List HeldCube) → find (daemon.is_user user) (map numbered_grant (map grant_of cubes)) ≡ option_map grant_held (find (is_held_by user) cubes)
+    by_cubes : (cubes : List HeldCube) → find (daemon.is_grant_of user) (map numbered_grant (map number_and_grant cubes)) ≡ option_map grant_held (find (is_held_by user) cubes)
     by_cubes [] = refl
     by_cubes (cube ∷ cubes) = elim (cases_Bool (is_held_by user cube)) [ inl t ↦ rw t refl | inr f ↦ rw f (by_cubes cubes) ]
 
@@ -38,23 +39,23 @@ held-same dim state user = by_cubes state.cubes
 pub free-same : (dim : ℕ) (state : MachineState) → daemon.is_ungranted (grant_table dim state) ≡ is_free state
 free-same dim state = λ i node. not (by_cubes node state.cubes i)
   where
-    by_cubes : (node : ℕ) (cubes : List HeldCube) → list_any (daemon.is_granted node) (map numbered_grant (map grant_of cubes)) ≡ list_any (λ (cube : HeldCube). is_inside cube.grant.sub node) cubes
+    by_cubes : (node : ℕ) (cubes : List HeldCube) → list_any (daemon.is_granted node) (map numbered_grant (map number_and_grant cubes)) ≡ list_any (λ (cube : HeldCube). is_inside cube.grant.sub node) cubes
     by_cubes node [] = refl
     by_cubes node (cube ∷ cubes) = ap (λ b. is_inside cube.grant.sub node || b) (by_cubes node cubes)
 
 -- a cube is granted, and one is given back
-pub grant-holding : (dim : ℕ) (state : MachineState) (user d : ℕ) (sub : Subcube)
+pub table-with-grant : (dim : ℕ) (state : MachineState) (user d : ℕ) (sub : Subcube)
     → grant_table dim (with_grant (grant_to user d sub) state) ≡ daemon.table_with_grant (next_grant state.grant_count user d sub) (grant_table dim state)
-grant-holding dim state user d sub = λ i. record { dim = dim; count = state.grant_count + 1; grants = grants i }
+table-with-grant dim state user d sub = λ i. record { dim = dim; count = state.grant_count + 1; grants = grants i }
   where
     grants : grants_in (with_grant (grant_to user d sub) state) ≡ grants_in state ++ next_grant state.grant_count user d sub ∷ []
-    grants = ap (map numbered_grant) (map-append grant_of state.cubes _) ∙ map-append numbered_grant (held_grants state) _
+    grants = ap (map numbered_grant) (map-append number_and_grant state.cubes _) ∙ map-append numbered_grant (held_grants state) _
 
-pub free-holding : (dim : ℕ) (state : MachineState) (user : ℕ) → grant_table dim (without_cube user state) ≡ daemon.without_user user (grant_table dim state)
-free-holding dim state user = λ i. record { dim = dim; count = state.grant_count; grants = by_cubes state.cubes i }
+pub table-without-user : (dim : ℕ) (state : MachineState) (user : ℕ) → grant_table dim (without_cube user state) ≡ daemon.without_user user (grant_table dim state)
+table-without-user dim state user = λ i. record { dim = dim; count = state.grant_count; grants = by_cubes state.cubes i }
   where
-    by_cubes : (cubes : List HeldCube) → map numbered_grant (map grant_of (filter (λ cube. not (is_held_by user cube)) cubes))
-        ≡ filter (λ grant. not (daemon.is_user user grant)) (map numbered_grant (map grant_of cubes))
+    by_cubes : (cubes : List HeldCube) → map numbered_grant (map number_and_grant (filter (λ cube. not (is_held_by user cube)) cubes))
+        ≡ filter (λ grant. not (daemon.is_grant_of user grant)) (map numbered_grant (map number_and_grant cubes))
     by_cubes [] = refl
     by_cubes (cube ∷ cubes) =
         elim (cases_Bool (is_held_by user cube)) [
@@ -62,9 +63,9 @@ free-holding dim state user = λ i. record { dim = dim; count = state.grant_coun
           | inr f ↦ rw f (ap (λ grants. grant_held cube ∷ grants) (by_cubes cubes))
         ]
 
--- where the grants stay and their count does, the holding stays
-pub same-holding : (dim : ℕ) (state state' : MachineState) → state'.grant_count ≡ state.grant_count → held_grants state' ≡ held_grants state → grant_table dim state' ≡ grant_table dim state
-same-holding dim state state' count grants = λ i. record { dim = dim; count = count i; grants = map numbered_grant (grants i) }
+-- where the grants stay and their count does, the table stays
+pub table-stays : (dim : ℕ) (state state' : MachineState) → state'.grant_count ≡ state.grant_count → held_grants state' ≡ held_grants state → grant_table dim state' ≡ grant_table dim state
+table-stays dim state state' count grants = λ i. record { dim = dim; count = count i; grants = map numbered_grant (grants i) }
 
 -- ---- a grant of a machine of this dimension
 

@@ -39,7 +39,7 @@ module _ {sub : Subcube} {from : Place} {number : ℕ} {targets : List (Place ×
   posted-more {number'} {target} {rest} {now} {then_is} {host'} {host''} posted changed host_is apart = record {
     count = changed.count ∙ posted.count;
     each = λ node below.
-        ap (λ (kept : NodeRecord). with_items (letters sub from (number' + 1) rest node) kept) (changed.each node (omega (arith, posted.count)))
+        ap (λ (node_record : NodeRecord). with_items (letters sub from (number' + 1) rest node) node_record) (changed.each node (omega (arith, posted.count)))
         ∙ joined (number_outward sub target.0.node == node) (desk_at now node) (letters sub from (number' + 1) rest node)
         ∙ posted.each node below;
     mail =
@@ -50,10 +50,10 @@ module _ {sub : Subcube} {from : Place} {number : ℕ} {targets : List (Place ×
       one : List Item
       one = letter from number' target ∷ []
 
-      joined : (b : Bool) (kept : NodeRecord) (behind : List Item)
-          → with_items behind (if b then with_items (letter from number' target ∷ []) kept else kept) ≡ with_items ((if b then letter from number' target ∷ [] else []) ++ behind) kept
-      joined true kept behind = λ i. record kept { waiting_items = append_assoc kept.waiting_items (letter from number' target ∷ []) behind i }
-      joined false kept behind = refl
+      joined : (b : Bool) (node_record : NodeRecord) (behind : List Item)
+          → with_items behind (if b then with_items (letter from number' target ∷ []) node_record else node_record) ≡ with_items ((if b then letter from number' target ∷ [] else []) ++ behind) node_record
+      joined true node_record behind = λ i. record node_record { waiting_items = append_assoc node_record.waiting_items (letter from number' target ∷ []) behind i }
+      joined false node_record behind = refl
 
       host_joined : (host'.mail ++ (if target.0.node == HOST then letter from number' target ∷ [] else [])) ++ letters sub from (number' + 1) rest HOST
           ≡ host'.mail ++ letters sub from number' (target ∷ rest) HOST
@@ -91,7 +91,7 @@ module _ {sub : Subcube} {from : Place} {number : ℕ} {targets : List (Place ×
       omega (
         arith,
         room.nodes node below,
-        ap (λ (kept : NodeRecord). length kept.waiting_items) (posted.each node below),
+        ap (λ (node_record : NodeRecord). length node_record.waiting_items) (posted.each node below),
         length-append (desk_at desks' node).waiting_items (letters sub from number' (target ∷ rest) node),
         length-append (desk_at desks node).waiting_items (letters sub from number targets node),
         ap length front,

@@ -16,7 +16,7 @@ pub mod Letters
 pub mod Loops
 pub mod NodeCalls
 pub mod Opening
-pub mod PlaceCalls
+pub mod OrderCalls
 pub mod QueueRoom
 pub mod SayEntries
 pub mod SendEntries

@@ -34,7 +34,7 @@ read-at desks n at desk below same is = get_or_read desks n desk below (subst (�
 
 -- the desks of the first nodes of a cube changed
 abbrev pub at_first : Subcube → ℕ → (NodeRecord → NodeRecord) → ℕ → NodeRecord → NodeRecord
-at_first sub r change node kept = if is_inside sub node && nat_lt (extract node sub.mask) r then change kept else kept
+at_first sub r change node node_record = if is_inside sub node && nat_lt (extract node sub.mask) r then change node_record else node_record
 
 and_true : (b : Bool) → (b && true) ≡ b
 and_true true = refl

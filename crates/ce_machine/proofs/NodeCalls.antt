@@ -1,5 +1,5 @@
--- The calls that nodes and hosts make: a node never arms, looks or takes a host's mail, a host never takes or notes, and one message goes to
--- so many places at most.
+-- The calls that nodes and hosts make: a node never arms, looks or takes a host's mail, a host
+-- never takes or notes, and one message goes to so many places at most.
 use Rattle.std.proofs.Common.{◌≡◌, ℕ, zero, suc, ◌+◌, ◌-◌, ◌≤◌, true, not, ◌&&◌, ◌||◌, ◌==◌, nat_lt, List, [], ◌∷◌, length, take, drop, zip, slice_get, Option, Some, None, Result, Ok, Err, IfOk, option_map, option_and_then, refl, subst, arith}
 use Rattle.std.specs.List.{AllByRecursion, list_all}
 use Rattle.std.proofs.lemmas.Bool.{cond_both, ltb-false, and_parts}
@@ -14,22 +14,22 @@ use Rattle.ce_model.specs.Space.{Space, has_unused_window, block_named, result_m
 use Rattle.ce_model.specs.Process.{Process, argument, call_number, moved_process}
 use Rattle.ce_model.specs.Node.{Turn, Node, process_at, is_place, Call, take_call, send_call, spawn_call, kill_call, note_call, arm_call, look_call, mail_call}
 use Rattle.ce_model.specs.Kernel.{CallOutcome, continuation, departure, turn_conclusion, return_outcome, leave_outcome, read_outcome, process_left_behind, with_store, map_outcome, xmalloc, free_outcome, xfree, xlength, is_target, place_named, send_outcome, xsend, copies_outcome, xmsend_block, xmsend, spawn, ckill, KernelCall, kernel_calls, counted_outcome, call_outcome, kernel}
-use Rattle.ce_model.specs.Saying.{Saying, after_call, after_instruction, instruction, turn_saying, saying_in, says}
-use Rattle.ce_model.specs.Cube.{Cube, HostCall, send_bytes, start_image, end_process, allow, look_round, take_message, host_call}
+use Rattle.ce_model.specs.Saying.{Saying, saying_after_call, saying_after_instruction, instruction, turn_saying, saying_in, says}
+use Rattle.ce_model.specs.Cube.{Cube, Wish, send_wish, spawn_wish, kill_wish, arm_wish, look_wish, mail_wish, call_of_wish}
 
 -- ---- nodes
 
 -- a call that a node can make
-abbrev pub IsNodeCall : Call → Type 0
-IsNodeCall (send_call pid to bytes) = length to ≤ greatest_targets
-IsNodeCall (arm_call count) = ⊥
-IsNodeCall look_call = ⊥
-IsNodeCall mail_call = ⊥
-IsNodeCall other = Unit {0}
+abbrev pub IsNodeActorCall : Call → Type 0
+IsNodeActorCall (send_call pid to bytes) = length to ≤ greatest_targets
+IsNodeActorCall (arm_call count) = ⊥
+IsNodeActorCall look_call = ⊥
+IsNodeActorCall mail_call = ⊥
+IsNodeActorCall other = Unit {0}
 
 abbrev IsGood : CallOutcome → Type 0
 IsGood (continuation node turn) = Unit {0}
-IsGood (departure node call) = IsNodeCall call
+IsGood (departure node call) = IsNodeActorCall call
 IsGood (turn_conclusion node) = Unit {0}
 
 reading-good : {X : Type 0} (node : Node) (turn : Turn) (p : Process) (read : Result X Stop) (P : X → Type 0) (onward : X → CallOutcome) → IfOk read P
@@ -155,67 +155,67 @@ kernel-good node turn p =
     cond_both (call_number p == 0) None (slice_get kernel_calls (call_number p - 1)) (λ found. IsGood (call_outcome found node turn p))
     (λ t. tt) (λ f. found-good kernel_calls (call_number p - 1) calls-good node turn p)
 
-did-good : (onward : Node → Turn → Saying) (did : CallOutcome) → ((node : Node) (turn : Turn) → IsNodeCall (onward node turn).call) → IsGood did
-    → IsNodeCall (after_call onward did).call
+did-good : (onward : Node → Turn → Saying) (did : CallOutcome) → ((node : Node) (turn : Turn) → IsNodeActorCall (onward node turn).call) → IsGood did
+    → IsNodeActorCall (saying_after_call onward did).call
 did-good onward (continuation node turn) good is = good node turn
 did-good onward (departure node call) good is = is
 did-good onward (turn_conclusion node) good is = tt
 
 instruction-good : (onward : Node → Turn → Saying) (left : ℕ) (node : Node) (turn : Turn) (p : Process) (outcome : Outcome Space)
-    → ((node : Node) (turn : Turn) → IsNodeCall (onward node turn).call) → IsNodeCall (after_instruction onward left node turn p outcome).call
-instruction-good onward left node turn p (next_state regs pc space) good = good _ turn
-instruction-good onward left node turn p (call_state regs pc space) good =
+    → ((node : Node) (turn : Turn) → IsNodeActorCall (onward node turn).call) → IsNodeActorCall (saying_after_instruction onward left node turn p outcome).call
+instruction-good onward left node turn p (next_state registers pc space) good = good _ turn
+instruction-good onward left node turn p (call_state registers pc space) good =
     let turn' = record turn { instructions_left = left } in
-    did-good onward (kernel node turn' (moved_process p regs pc space)) good (kernel-good node turn' (moved_process p regs pc space))
+    did-good onward (kernel node turn' (moved_process p registers pc space)) good (kernel-good node turn' (moved_process p registers pc space))
 instruction-good onward left node turn p (stop_state cause) good = tt
 
-runs-good : (left : ℕ) (node : Node) (turn : Turn) → IsNodeCall (turn_saying left node turn).call
+runs-good : (left : ℕ) (node : Node) (turn : Turn) → IsNodeActorCall (turn_saying left node turn).call
 unfolding turn_saying
 runs-good zero node turn = tt
 runs-good (suc left) node turn =
     instruction-good (turn_saying left) left node turn (process_at node turn.pid) (instruction (process_at node turn.pid)) (runs-good left)
 
 -- what a node says is a call that a node can make
-pub says-node_call : (node : Node) → IsNodeCall (says node).call
+pub says-node_call : (node : Node) → IsNodeActorCall (says node).call
 unfolding says
 says-node_call node = by_turn node.turn
   where
-    by_turn : (turn : Option Turn) → IsNodeCall (saying_in node turn).call
+    by_turn : (turn : Option Turn) → IsNodeActorCall (saying_in node turn).call
     by_turn None = tt
     by_turn (Some turn) = runs-good turn.instructions_left node turn
 
 -- ---- hosts
 
 -- a call that a host of a cube of this dimension can make
-abbrev pub IsHostCall : ℕ → Call → Type 0
-IsHostCall d (send_call pid to bytes) = (length to ≤ greatest_targets) × AllByRecursion (λ target. is_place d target.0 ≡ true) to
-IsHostCall d (spawn_call pid image to) = is_place d to ≡ true
-IsHostCall d (kill_call pid to) = is_place d to ≡ true
-IsHostCall d (take_call asking dead poller) = ⊥
-IsHostCall d (note_call pid word) = ⊥
-IsHostCall d other = Unit {0}
+abbrev pub IsHostActorCall : ℕ → Call → Type 0
+IsHostActorCall d (send_call pid to bytes) = (length to ≤ greatest_targets) × AllByRecursion (λ target. is_place d target.0 ≡ true) to
+IsHostActorCall d (spawn_call pid image to) = is_place d to ≡ true
+IsHostActorCall d (kill_call pid to) = is_place d to ≡ true
+IsHostActorCall d (take_call asking dead poller) = ⊥
+IsHostActorCall d (note_call pid word) = ⊥
+IsHostActorCall d other = Unit {0}
 
 abbrev IfHostCall : ℕ → Option Call → Type 0
 IfHostCall d None = Unit {0}
-IfHostCall d (Some call) = IsHostCall d call
+IfHostCall d (Some call) = IsHostActorCall d call
 
-host-good : (cube : Cube) (store : List BlockId) (wish : Option HostCall) → IfHostCall cube.dim (option_and_then (host_call cube store) wish)
+host-good : (cube : Cube) (store : List BlockId) (wish : Option Wish) → IfHostCall cube.dim (option_and_then (call_of_wish cube store) wish)
 host-good cube store None = tt
-host-good cube store (Some (send_bytes to bytes)) =
+host-good cube store (Some (send_wish to bytes)) =
     cond_both (is_place cube.dim to) (option_map (λ id. send_call 0 ((to, id) ∷ []) bytes) (slice_get store 0)) None (IfHostCall cube.dim) (λ t. by_block (slice_get store 0) t) (λ f. tt)
   where
     by_block : (least : Option BlockId) → is_place cube.dim to ≡ true → IfHostCall cube.dim (option_map (λ id. send_call 0 ((to, id) ∷ []) bytes) least)
     by_block None place = tt
     by_block (Some id) place = (omega (arith, greatest_targets_lem), (place, tt))
-host-good cube store (Some (start_image image to)) =
+host-good cube store (Some (spawn_wish image to)) =
     cond_both (is_place cube.dim to && nat_lt image (length cube.images)) (Some (spawn_call 0 image to)) None (IfHostCall cube.dim)
     (λ t. (and_parts (is_place cube.dim to) (nat_lt image (length cube.images)) t).0) (λ f. tt)
-host-good cube store (Some (end_process to)) = cond_both (is_place cube.dim to) (Some (kill_call 0 to)) None (IfHostCall cube.dim) (λ t. t) (λ f. tt)
-host-good cube store (Some (allow count)) = tt
-host-good cube store (Some look_round) = tt
-host-good cube store (Some take_message) = tt
+host-good cube store (Some (kill_wish to)) = cond_both (is_place cube.dim to) (Some (kill_call 0 to)) None (IfHostCall cube.dim) (λ t. t) (λ f. tt)
+host-good cube store (Some (arm_wish count)) = tt
+host-good cube store (Some look_wish) = tt
+host-good cube store (Some mail_wish) = tt
 
 -- what a host makes of what its user asks is a call that a host can make
-pub wish-host_call : (cube : Cube) (store : List BlockId) (wish : Option HostCall) (call : Call) → option_and_then (host_call cube store) wish ≡ Some call
-    → IsHostCall cube.dim call
-wish-host_call cube store wish call e = subst (IfHostCall cube.dim) e (host-good cube store wish)
+pub wish-call_of_wish : (cube : Cube) (store : List BlockId) (wish : Option Wish) (call : Call) → option_and_then (call_of_wish cube store) wish ≡ Some call
+    → IsHostActorCall cube.dim call
+wish-call_of_wish cube store wish call e = subst (IfHostCall cube.dim) e (host-good cube store wish)

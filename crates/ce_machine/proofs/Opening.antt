@@ -6,25 +6,25 @@ use Rattle.ce_model.specs.Machine.{MachineParts, IsMachine, after}
 use Rattle.ce_daemon.specs.Holding.{GrantTable}
 use Rattle.ce_machine.specs.Tables.{HostRecord, blank_host, desk_at, host_at, AreTables, IsSoundMachine}
 
-module _ (parts : MachineParts) (machine : IsMachine parts) (holding : GrantTable) (desks : List NodeRecord) (hosts : List HostRecord)
-    (nothing : holding ≡ record { dim = parts.dim; count = 0; grants = [] })
+module _ (parts : MachineParts) (machine : IsMachine parts) (table : GrantTable) (desks : List NodeRecord) (hosts : List HostRecord)
+    (nothing : table ≡ record { dim = parts.dim; count = 0; grants = [] })
     (nodes : length desks ≡ 2 ^ parts.dim) (blank : (node : ℕ) → desk_at desks node ≡ blank_record)
     (users : length hosts ≡ parts.users) (alone : (user : ℕ) → host_at hosts user ≡ blank_host) where
-  tables-new : AreTables parts (after []) holding desks hosts
+  tables-new : AreTables parts (after []) table desks hosts
   unfolding after
   tables-new = record {
-    holding_is = nothing;
+    table_is = nothing;
     desk_count = nodes;
     desk_is = λ node below. blank node;
     host_count = users;
     host_is = λ user below. alone user;
   }
 
-  sound_at : IsSoundMachine parts [] holding desks hosts
+  sound_at : IsSoundMachine parts [] table desks hosts
   sound_at = record { machine = machine; lawful = tt; tables = tables-new }
 
   -- the machine is sound, whose dimension is the daemon's
-  pub sound-new : (h : List Entry) → h ≡ [] → IsSoundMachine (record parts { dim = holding.dim }) h holding desks hosts
+  pub sound-new : (h : List Entry) → h ≡ [] → IsSoundMachine (record parts { dim = table.dim }) h table desks hosts
   sound-new h none =
-      subst (λ dim. IsSoundMachine (record parts { dim = dim }) h holding desks hosts) (sym (ap (λ (held : GrantTable). held.dim) nothing))
-      (subst (λ h. IsSoundMachine parts h holding desks hosts) (sym none) sound_at)
+      subst (λ dim. IsSoundMachine (record parts { dim = dim }) h table desks hosts) (sym (ap (λ (held : GrantTable). held.dim) nothing))
+      (subst (λ h. IsSoundMachine parts h table desks hosts) (sym none) sound_at)

@@ -1,4 +1,5 @@
--- How much the machine has to keep: what waits at a node and for a host, the ids that were spawned and killed, and a cube's counts.
+-- How much the machine has to keep: what waits at a node and for a host, the ids that were spawned
+-- and killed, and a cube's counts.
 use Rattle.std.proofs.Common.{◌≡◌, ℕ, suc, ◌+◌, ◌*◌, ◌^◌, ◌<◌, ◌≤◌, true, false, ◌==◌, if◌then◌else◌, List, [], ◌∷◌, ◌++◌, map, length, count_by, Option, Some, None, refl, ap, sym, ◌∙◌, subst, inl, inr, arith, length-append}
 use Rattle.std.specs.List.{AllByRecursion}
 use Rattle.std.proofs.lemmas.Bool.{cases_Bool, cond_both, both_ways, eqb-true, eq-eqb, ne_eqb}
@@ -16,7 +17,7 @@ use Rattle.ce_model.specs.Cube.{Cube, CubeState, IsCube}
 use Rattle.ce_model.specs.Sound.{IsItemOf, IsHostItem, AreDistinct, IsSoundRecord, IsSound}
 use Rattle.ce_model.specs.Subcubes.{extract, is_inside}
 use Rattle.ce_model.specs.Renaming.{CubeGrant, block_outward, place_outward, renamed_item, renamed_record}
-use Rattle.ce_model.specs.Machine.{MachineParts, IsMachine, HeldCube, MachineState, cube_held_by, nodes_of, cube_standing, cube_of, record_by, cube_after_entry, changed_record, with_cube, after, with_places_outward, IsCallWithinLimits, IsCallOf, IsLawfulEntry, IsLawful}
+use Rattle.ce_model.specs.Machine.{MachineParts, IsMachine, HeldCube, MachineState, cube_held_by, nodes_of, cube_standing, cube_of, record_after_entry, cube_after_entry, changed_record, with_cube, after, with_places_outward, IsCallWithinLimits, IsCallOf, IsLawfulEntry, IsLawful}
 use Rattle.ce_model.proofs.Subcubes.{node_of-extract}
 use Rattle.ce_model.proofs.Walked.{kept_by_each, each-more}
 use Rattle.ce_solo.proofs.Lists.{all-map, all-weaker, count_by-cons}
@@ -27,13 +28,14 @@ use Rattle.ce_solo.proofs.Projection.Numbers.{inside_below}
 use Rattle.ce_solo.proofs.Projection.Held.{held-own, granted-own, left-own}
 use Rattle.ce_solo.proofs.Projection.Invariant.{IsHeld, IsNextState}
 use Rattle.ce_solo.proofs.Projection.Law.{projected, lawful-entry}
-use Rattle.ce_machine.proofs.NodeCalls.{IsNodeCall}
+use Rattle.ce_machine.proofs.NodeCalls.{IsNodeActorCall}
 use Rattle.ce_machine.proofs.Changes.{same_cube, next, grant_to, Change, nothing, grants, drains, frees, calls, change-of}
 use Rattle.ce_machine.proofs.Called.{HasFewPlaces, left_now, own-is, sound-now, node-call, call-few}
 
 -- ---- the room
 
--- as many parcels can wait for a node as the largest cube has blocks, and a start and a kill of each of its ids
+-- as many parcels can wait for a node as the largest cube has blocks, and a start and a kill of
+-- each of its ids
 abbrev pub queue_room : ℕ
 queue_room = greatest_blocks + 2 * process_count
 
@@ -54,13 +56,13 @@ room-most d small =
 -- ---- what is kept for a node
 
 -- what is kept for a node has its limits, and so have the ids for which its items are
-pub record IsSmallRecord (kept : NodeRecord) : Type 0 where
-  pub waiting : length kept.waiting_items ≤ queue_room
-  pub ids : AllByRecursion (λ item. item_id item < process_count) kept.waiting_items
-  pub spawned : length kept.spawned_ids ≤ process_count
-  pub spawned_ids : AllByRecursion (λ pid. pid < process_count) kept.spawned_ids
-  pub killed : length kept.killed_ids ≤ process_count
-  pub killed_ids : AllByRecursion (λ pid. pid < process_count) kept.killed_ids
+pub record IsSmallRecord (node_record : NodeRecord) : Type 0 where
+  pub waiting : length node_record.waiting_items ≤ queue_room
+  pub ids : AllByRecursion (λ item. item_id item < process_count) node_record.waiting_items
+  pub spawned : length node_record.spawned_ids ≤ process_count
+  pub spawned_ids : AllByRecursion (λ pid. pid < process_count) node_record.spawned_ids
+  pub killed : length node_record.killed_ids ≤ process_count
+  pub killed_ids : AllByRecursion (λ pid. pid < process_count) node_record.killed_ids
 
 pub blank-small : IsSmallRecord blank_record
 blank-small = record { waiting = omega arith; ids = tt; spawned = omega arith; spawned_ids = tt; killed = omega arith; killed_ids = tt }
@@ -83,15 +85,15 @@ distinct-once k (pid ∷ pids) all =
     ]
 
 -- the ids that are killed were spawned, so they are a node's too
-killed-ids : (cube : Cube) (sent r : ℕ) (kept : NodeRecord) → IsSoundRecord cube sent r kept → AllByRecursion (λ pid. pid < process_count) kept.killed_ids
-killed-ids cube sent r kept sound =
-    all-weaker (λ pid. is_among pid kept.spawned_ids ≡ true) (λ pid. pid < process_count) kept.killed_ids
-    (λ pid among. among-all (λ q. q < process_count) pid kept.spawned_ids sound.ids among) sound.killed
+killed-ids : (cube : Cube) (sent r : ℕ) (node_record : NodeRecord) → IsSoundRecord cube sent r node_record → AllByRecursion (λ pid. pid < process_count) node_record.killed_ids
+killed-ids cube sent r node_record sound =
+    all-weaker (λ pid. is_among pid node_record.spawned_ids ≡ true) (λ pid. pid < process_count) node_record.killed_ids
+    (λ pid among. among-all (λ q. q < process_count) pid node_record.spawned_ids sound.ids among) sound.killed
 
-item-small : (cube : Cube) (sent r : ℕ) (kept : NodeRecord) → IsSoundRecord cube sent r kept → (item : Item) → IsItemOf cube r kept item → item_id item < process_count
-item-small cube sent r kept sound (start pid image) of = among-all (λ q. q < process_count) pid kept.spawned_ids sound.ids of.0
-item-small cube sent r kept sound (mail parcel) of = of.1
-item-small cube sent r kept sound (kill pid) of = among-all (λ q. q < process_count) pid kept.killed_ids (killed-ids cube sent r kept sound) of
+item-small : (cube : Cube) (sent r : ℕ) (node_record : NodeRecord) → IsSoundRecord cube sent r node_record → (item : Item) → IsItemOf cube r node_record item → item_id item < process_count
+item-small cube sent r node_record sound (start pid image) of = among-all (λ q. q < process_count) pid node_record.spawned_ids sound.ids of.0
+item-small cube sent r node_record sound (mail parcel) of = of.1
+item-small cube sent r node_record sound (kill pid) of = among-all (λ q. q < process_count) pid node_record.killed_ids (killed-ids cube sent r node_record sound) of
 
 same_id : (rename : BlockId → BlockId) (item : Item) → item_id (renamed_item rename item) ≡ item_id item
 same_id rename (start pid image) = refl
@@ -101,22 +103,23 @@ same_id rename (kill pid) = refl
 sound-small : (cube : Cube) (s : CubeState) (r : ℕ) (rename : BlockId → BlockId) → IsCube cube → IsSound cube s → r < 2 ^ cube.dim
     → IsSmallRecord (renamed_record rename (s.standing.node_record r))
 sound-small cube s r rename of sound below =
-    let kept = s.standing.node_record r in
+    let node_record = s.standing.node_record r in
     let is = sound.records r below in
     record {
-      waiting = omega (arith, node_room cube s r of sound below, length-map kept.waiting_items (renamed_item rename), room-most cube.dim of.dim);
-      ids = all-map (λ item. item_id item < process_count) (renamed_item rename) kept.waiting_items
-          (all-weaker (IsItemOf cube r kept) (λ item. item_id (renamed_item rename item) < process_count) kept.waiting_items
-          (λ item of. subst (λ n. n < process_count) (sym (same_id rename item)) (item-small cube s.standing.parcel_count r kept is item of)) is.own);
-      spawned = few-distinct kept.spawned_ids process_count is.ids (λ pid. distinct-once pid kept.spawned_ids is.spawned_once);
+      waiting = omega (arith, node_room cube s r of sound below, length-map node_record.waiting_items (renamed_item rename), room-most cube.dim of.dim);
+      ids = all-map (λ item. item_id item < process_count) (renamed_item rename) node_record.waiting_items
+          (all-weaker (IsItemOf cube r node_record) (λ item. item_id (renamed_item rename item) < process_count) node_record.waiting_items
+          (λ item of. subst (λ n. n < process_count) (sym (same_id rename item)) (item-small cube s.standing.parcel_count r node_record is item of)) is.own);
+      spawned = few-distinct node_record.spawned_ids process_count is.ids (λ pid. distinct-once pid node_record.spawned_ids is.spawned_once);
       spawned_ids = is.ids;
-      killed = few-distinct kept.killed_ids process_count (killed-ids cube s.standing.parcel_count r kept is) (λ pid. distinct-once pid kept.killed_ids is.killed_once);
-      killed_ids = killed-ids cube s.standing.parcel_count r kept is;
+      killed = few-distinct node_record.killed_ids process_count (killed-ids cube s.standing.parcel_count r node_record is) (λ pid. distinct-once pid node_record.killed_ids is.killed_once);
+      killed_ids = killed-ids cube s.standing.parcel_count r node_record is;
     }
 
 -- ---- a cube that is held
 
--- so have a cube's counts and what waits for its host: who holds a cube was granted it, so one entry at least sent nothing
+-- so have a cube's counts and what waits for its host: who holds a cube was granted it, so one
+-- entry at least sent nothing
 pub record IsSmallCube (entries : ℕ) (cube : HeldCube) : Type 0 where
   pub mail : length cube.mail ≤ greatest_blocks
   pub own : AllByRecursion IsHostItem cube.mail
@@ -189,7 +192,7 @@ abbrev IsAllowed : Call → Type 0
 IsAllowed (arm_call count) = count ≤ greatest_count
 IsAllowed other = Unit {0}
 
-allowed-by_node : (call : Call) → IsNodeCall call → IsAllowed call
+allowed-by_node : (call : Call) → IsNodeActorCall call → IsAllowed call
 allowed-by_node (arm_call count) is = absurd is
 allowed-by_node other is = tt
 
@@ -228,10 +231,10 @@ record IsRoomy (parts : MachineParts) (h : List Entry) : Type 0 where
   pub nodes : (node : ℕ) → IsSmallRecord ((after h).node_record node)
   pub cubes : (user : ℕ) (cube : HeldCube) → cube_held_by (after h) user ≡ Some cube → IsSmallCube (length h) cube
 
-changed-small : (P : NodeRecord → Type 0) (change : HeldCube → ℕ → NodeRecord → NodeRecord) (node : ℕ) (kept : NodeRecord) (held : Option HeldCube)
-    → P kept → ((cube : HeldCube) → P (change cube node kept)) → P (changed_record change node kept held)
-changed-small P change node kept None small each = small
-changed-small P change node kept (Some cube) small each = cond_both (is_inside cube.grant.sub node) (change cube node kept) kept P (λ t. each cube) (λ f. small)
+changed-small : (P : NodeRecord → Type 0) (change : HeldCube → ℕ → NodeRecord → NodeRecord) (node : ℕ) (node_record : NodeRecord) (held : Option HeldCube)
+    → P node_record → ((cube : HeldCube) → P (change cube node node_record)) → P (changed_record change node node_record held)
+changed-small P change node node_record None small each = small
+changed-small P change node node_record (Some cube) small each = cond_both (is_inside cube.grant.sub node) (change cube node node_record) node_record P (λ t. each cube) (λ f. small)
 
 module _ (parts : MachineParts) (machine : IsMachine parts) (h : List Entry) (entry : Entry) (room : IsRoomy parts h) (is : IsLawfulEntry parts h entry) where
   abbrev h' : List Entry
@@ -245,11 +248,11 @@ module _ (parts : MachineParts) (machine : IsMachine parts) (h : List Entry) (en
 
   -- a cube that makes a call
   held_next : (cube : HeldCube) → cube_held_by (after h) entry.user ≡ Some cube
-      → next h entry ≡ with_cube entry.user (cube_after_entry entry) (λ cube. record_by cube.grant.sub entry) (after h)
+      → next h entry ≡ with_cube entry.user (cube_after_entry entry) (λ cube. record_after_entry cube.grant.sub entry) (after h)
       → cube_held_by (after h') entry.user ≡ Some (cube_after_entry entry cube)
   held_next cube holds e =
       ap (λ state. cube_held_by state entry.user) e
-      ∙ held-own entry.user (cube_after_entry entry) (λ cube. refl) (λ cube. record_by cube.grant.sub entry) (after h) cube holds
+      ∙ held-own entry.user (cube_after_entry entry) (λ cube. refl) (λ cube. record_after_entry cube.grant.sub entry) (after h) cube holds
 
   node-next : Change parts h entry → (node : ℕ) → IsSmallRecord ((after h').node_record node)
   node-next (nothing e) node = subst (λ (s : MachineState). IsSmallRecord (s.node_record node)) (sym e) (room.nodes node)
@@ -257,11 +260,11 @@ module _ (parts : MachineParts) (machine : IsMachine parts) (h : List Entry) (en
   node-next (drains cube holds e) node =
       let was = room.nodes node in
       subst (λ (s : MachineState). IsSmallRecord (s.node_record node)) (sym e)
-      (changed-small IsSmallRecord (λ cube node kept. record kept { waiting_items = [] }) node ((after h).node_record node) (cube_held_by (after h) entry.user) was
+      (changed-small IsSmallRecord (λ cube node node_record. record node_record { waiting_items = [] }) node ((after h).node_record node) (cube_held_by (after h) entry.user) was
       (λ cube. record { waiting = omega arith; ids = tt; spawned = was.spawned; spawned_ids = was.spawned_ids; killed = was.killed; killed_ids = was.killed_ids }))
   node-next (frees cube holds drained e) node =
       subst (λ (s : MachineState). IsSmallRecord (s.node_record node)) (sym e)
-      (changed-small IsSmallRecord (λ cube node kept. blank_record) node ((after h).node_record node) (cube_held_by (after h) entry.user) (room.nodes node) (λ cube. blank-small))
+      (changed-small IsSmallRecord (λ cube node node_record. blank_record) node ((after h).node_record node) (cube_held_by (after h) entry.user) (room.nodes node) (λ cube. blank-small))
   node-next (calls call cube holds fits what e) node =
       elim (cases_Bool (is_inside cube.grant.sub node)) [
         | inl inside ↦ inside-small parts machine h' lawful-next entry.user (cube_after_entry entry cube) (held_next cube holds e) fits.not_drained node inside
@@ -285,7 +288,7 @@ module _ (parts : MachineParts) (machine : IsMachine parts) (h : List Entry) (en
       })
   own-next (drains cube holds e) cube' held =
       let change : HeldCube → HeldCube = λ cube. record cube { is_drained = true; mail = [] } in
-      let now = held-own entry.user change (λ cube. refl) (λ cube node kept. record kept { waiting_items = [] }) (after h) cube holds in
+      let now = held-own entry.user change (λ cube. refl) (λ cube node node_record. record node_record { waiting_items = [] }) (after h) cube holds in
       let same = same_cube (change cube) cube' (sym now ∙ ap (λ state. cube_held_by state entry.user) (sym e) ∙ held) in
       let was = more_room (length h) cube (room.cubes entry.user cube holds) in
       subst (IsSmallCube (length h + 1)) same (record { mail = omega arith; own = tt; allowed_dispatches = was.allowed_dispatches; made_dispatches = was.made_dispatches; parcel_count = was.parcel_count })

@@ -1,5 +1,5 @@
 -- What nodes and hosts say, answered.
-use Rattle.std.proofs.Common.{◌≡◌, ◌⊎◌, ℕ, ◌+◌, ◌^◌, ◌<◌, ◌≤◌, Bool, true, false, not, ◌==◌, if◌then◌else◌, List, [], ◌∷◌, ◌++◌, length, find, get_or, set, Option, Some, None, IsTrue, refl, ap, ap₂, sym, ◌∙◌, subst, arith, inl, inr}
+use Rattle.std.proofs.Common.{◌≡◌, ◌⊎◌, ℕ, ◌+◌, ◌^◌, ◌<◌, Bool, true, false, ◌==◌, if◌then◌else◌, List, [], ◌∷◌, ◌++◌, length, find, get_or, set, Option, Some, None, IsTrue, refl, ap, ap₂, sym, ◌∙◌, subst, arith, inl, inr}
 use Rattle.std.proofs.lemmas.Bool.{cond_both, cases_Bool, eqb-true, eq-eqb}
 use Rattle.std.proofs.lemmas.List.{get_or-set_same, get_or-set_other, length-set, length-append}
 use Rattle.ce_model.specs.declared.topology.TheConstants.{HOST}
@@ -8,23 +8,21 @@ use Rattle.ce_model.specs.declared.entry.Entry.{Entry}
 use Rattle.ce_model.specs.declared.entry.What.{What}
 use Rattle.ce_model.specs.declared.entry.What.TheVariants as whats
 use Rattle.ce_model.specs.declared.entry.TakeResult.{TakeResult}
-use Rattle.ce_model.specs.declared.entry.KillFound.{KillFound}
-use Rattle.ce_model.specs.declared.entry.KillFound.TheVariants.{Killed, Unused, Already}
-use Rattle.ce_model.specs.Limits.{process_count, node_room, node_room_lem}
+use Rattle.ce_model.specs.declared.entry.KillResult.TheVariants.{Killed}
+use Rattle.ce_model.specs.Limits.{process_count, node_room_lem}
 use Rattle.ce_model.specs.Lists.{without_first}
 use Rattle.ce_model.specs.Parcels as model
 use Rattle.ce_model.specs.Parcels.{is_eligible, is_named_by, take_result_of}
 use Rattle.ce_model.specs.Cube.{parcel_numbered}
 use Rattle.ce_model.specs.Node as model_node
-use Rattle.ce_model.specs.Node.{take_call, spawn_call, kill_call, note_call}
+use Rattle.ce_model.specs.Node.{take_call, note_call}
 use Rattle.ce_model.specs.Trace.{Mark, NodeRecord, blank_record, taken_result, is_work, is_idle}
-use Rattle.ce_model.specs.Answers.{recorded_call, offer_of, is_among, kill_found}
+use Rattle.ce_model.specs.Answers.{recorded_call, offer_of}
 use Rattle.ce_model.specs.Subcubes.{node_of, is_inside}
 use Rattle.ce_model.specs.Renaming.{place_outward}
-use Rattle.ce_model.specs.Machine.{MachineState, HeldCube, host_record, cube_held_by, after, what_of_request, without_taken, IsCallOf}
-use Rattle.ce_solo.proofs.Sending.{place_parts}
+use Rattle.ce_model.specs.Machine.{MachineParts, MachineState, HeldCube, host_record, cube_held_by, after, what_of_request, without_taken_item, IsCallOf}
 use Rattle.ce_solo.proofs.Projection.Numbers.{inside_no_host, out_node}
-use Rattle.ce_solo.proofs.Projection.Kinds.{entry_of}
+use Rattle.ce_model.specs.Literals.{entry_of}
 use Rattle.ce_lock.specs.declared.who.Who.{Who}
 use Rattle.ce_daemon.specs.declared.grant.Grant.{Grant}
 use Rattle.ce_daemon.specs.Holding as daemon
@@ -32,40 +30,37 @@ use Rattle.rk_mail.specs.declared.parcel.Parcel.{Parcel}
 use Rattle.rk_mail.specs.Items.{parcel_of}
 use Rattle.rk_mail.specs.declared.talk.Hearing.{Hearing}
 use Rattle.rk_mail.specs.declared.talk.Say.TheVariants as say
-use Rattle.rk_mail.specs.declared.talk.Hearing.TheVariants as hearing
-use Rattle.rk_mail.specs.Talk.{is_of_take, IsGiven, kill_hearing}
+use Rattle.rk_mail.specs.declared.talk.Hearing.TheVariants as hearings
+use Rattle.rk_mail.specs.Talk.{is_take_hearing, IsHearingOfTake, IsHearingOfEntry}
 use Rattle.ce_machine.specs.declared.call.Call.{Call}
 use Rattle.ce_machine.specs.declared.call.Call.TheVariants as calls
 use Rattle.ce_machine.specs.declared.call.Reply.{Reply}
 use Rattle.ce_machine.specs.declared.call.Reply.TheVariants as replies
+use Rattle.ce_machine.specs.declared.order.Order.{Order}
+use Rattle.ce_machine.specs.declared.order.Order.TheVariants as orders
 use Rattle.ce_machine.specs.Requests.{request_of, IsFittingCall}
-use Rattle.ce_machine.specs.Replies.{IsReplyTo, IsHeard, actor_items}
+use Rattle.ce_machine.specs.Replies.{IsReplyTo, IsHearingReply, OfHeldCube, actor_items}
 use Rattle.ce_machine.specs.Tables.{HostRecord, cube_host, desk_at, host_at}
-use Rattle.ce_machine.specs.Desks.{AreChanged, change_at_node, with_busy_mark, with_start, with_kill, HasStartRoom, HasKillRoom}
-use Rattle.ce_machine.specs.Gives.{heard_item, result_of_hearing, chosen_item, items_left}
+use Rattle.ce_machine.specs.Desks.{AreChanged, change_at_node, with_busy_mark, with_start, with_kill}
+use Rattle.ce_machine.specs.Orders.{say_of_order, call_of_order, what_of_order, hearing_of_order, with_order, HasOrderRoom}
+use Rattle.ce_machine.specs.Gives.{hearing_item, result_of_hearing, chosen_item, items_left}
 use Rattle.ce_machine.proofs.Changes.{next}
-use Rattle.ce_machine.proofs.QueueRoom.{queue_room_lem, node-limits}
-use Rattle.ce_machine.proofs.Called.{call-places}
+use Rattle.ce_machine.proofs.QueueRoom.{queue_room_lem, IsSmallRecord, node-limits}
 use Rattle.ce_machine.proofs.Answered.{place_of, call-answered, note-answer}
 use Rattle.ce_machine.proofs.CallEffects as effects
 use Rattle.ce_machine.proofs.Taking.{taken-first, taken-parcel}
 use Rattle.ce_machine.proofs.Acted as acted
 use Rattle.ce_machine.proofs.Holdings.{grant_held, placed-node}
 use Rattle.ce_machine.proofs.Firsts.{none-left}
-use Rattle.ce_machine.proofs.Entries.{SoundMachine, IsIn, is-in, if-held, host-same, host-set, host-read, host-held, desk-read, differs, user-below, inside-below, placed, grant-is, desks-changed, tables-call, more-lawful, IsDone, done-with}
+use Rattle.ce_machine.proofs.Entries.{SoundMachine, IsIn, is-in, if-held, host-same, host-set, host-read, host-held, desk-read, differs, user-below, inside-below, placed, grant-is, desks-changed, tables-call, more-lawful, HasMadeEntry, done-with}
 
 -- a node that is busy, told in two ways
-busy-same : (actor node : ℕ) (kept : NodeRecord) → effects.with_call_mark actor node kept ≡ change_at_node actor with_busy_mark node kept
-busy-same actor node kept =
-    cond_both (actor == node) (with_busy_mark kept) kept (λ now. effects.with_call_mark actor node kept ≡ now) (λ t. rw t refl) (λ f. rw f refl)
-
--- a change that changes nothing
-unchanged : (b : Bool) (kept : NodeRecord) → kept ≡ (if b then kept else kept)
-unchanged true kept = refl
-unchanged false kept = refl
+busy-same : (actor node : ℕ) (node_record : NodeRecord) → effects.with_call_mark actor node node_record ≡ change_at_node actor with_busy_mark node node_record
+busy-same actor node node_record =
+    cond_both (actor == node) (with_busy_mark node_record) node_record (λ now. effects.with_call_mark actor node node_record ≡ now) (λ t. rw t refl) (λ f. rw f refl)
 
 -- one change behind another
-pub chained : (a b c : List NodeRecord) (f g : ℕ → NodeRecord → NodeRecord) → AreChanged a b f → AreChanged b c g → AreChanged a c (λ node kept. g node (f node kept))
+pub chained : (a b c : List NodeRecord) (f g : ℕ → NodeRecord → NodeRecord) → AreChanged a b f → AreChanged b c g → AreChanged a c (λ node node_record. g node (f node node_record))
 chained a b c f g first second = record {
   count = second.count ∙ first.count;
   each = λ node below. second.each node (omega (arith, first.count)) ∙ ap (g node) (first.each node below);
@@ -84,14 +79,14 @@ pub record HasDesk (desks : List NodeRecord) (at : Place) : Type 0 where
 -- ---- what a node that asks for work is given
 
 given_one : (asking dead : ℕ) (poller : Option ℕ) (item : model.Item) (items : List model.Item)
-    → without_taken (taken_result (whats.Take asking dead poller (take_result_of item))) items ≡ without_first (is_named_by (take_result_of item)) items
+    → without_taken_item (taken_result (whats.Take asking dead poller (take_result_of item))) items ≡ without_first (is_named_by (take_result_of item)) items
 given_one asking dead poller (model.start pid image) items = refl
 given_one asking dead poller (model.mail parcel) items = refl
 given_one asking dead poller (model.kill pid) items = refl
 
-take-left : (asking dead : ℕ) (poller : Option ℕ) (used : Bool) (items : List model.Item) (found : Option model.Item) → find (is_eligible asking dead) items ≡ found
+take-left : (asking dead : ℕ) (poller : Option ℕ) (is_used_up : Bool) (items : List model.Item) (found : Option model.Item) → find (is_eligible asking dead) items ≡ found
     → ((item : model.Item) → found ≡ Some item → without_first (is_named_by (take_result_of item)) items ≡ without_first (is_eligible asking dead) items)
-    → without_taken (taken_result (whats.Take asking dead poller (offer_of found poller used))) items ≡ items_left used asking dead items
+    → without_taken_item (taken_result (whats.Take asking dead poller (offer_of found poller is_used_up))) items ≡ items_left is_used_up asking dead items
 take-left asking dead poller true items (Some item) e first = refl
 take-left asking dead poller false items (Some item) e first = given_one asking dead poller item items ∙ first item refl
 take-left asking dead (Some pid) true items None e first = refl
@@ -99,48 +94,71 @@ take-left asking dead (Some pid) false items None e first = sym (none-left (is_e
 take-left asking dead None true items None e first = refl
 take-left asking dead None false items None e first = sym (none-left (is_eligible asking dead) items e)
 
-given-heard : (items : List model.Item) (h : Hearing) → IsTrue (is_of_take h)
-    → ((parcel : Parcel) → heard_item h ≡ Some (model.mail (parcel_of parcel)) → parcel_numbered parcel.number items ≡ Some (parcel_of parcel)) → IsGiven items (result_of_hearing h) h
-given-heard items (hearing.Start pid image) kind at = refl
-given-heard items (hearing.Mail parcel) kind at = (parcel, refl, at parcel refl)
-given-heard items (hearing.Kill pid) kind at = refl
-given-heard items (hearing.Poll pid) kind at = refl
-given-heard items hearing.Idle kind at = refl
-given-heard items hearing.Spent kind at = refl
-given-heard items (hearing.Posted batch) kind at = absurd (cc)
-given-heard items hearing.Spawned kind at = absurd (cc)
-given-heard items hearing.Used kind at = absurd (cc)
-given-heard items hearing.Killed kind at = absurd (cc)
-given-heard items hearing.Unused kind at = absurd (cc)
-given-heard items hearing.Already kind at = absurd (cc)
-given-heard items hearing.Noted kind at = absurd (cc)
+given-heard : (items : List model.Item) (h : Hearing) → IsTrue (is_take_hearing h)
+    → ((parcel : Parcel) → hearing_item h ≡ Some (model.mail (parcel_of parcel)) → parcel_numbered parcel.number items ≡ Some (parcel_of parcel)) → IsHearingOfTake items (result_of_hearing h) h
+given-heard items (hearings.Start pid image) kind at = refl
+given-heard items (hearings.Mail parcel) kind at = (parcel, refl, at parcel refl)
+given-heard items (hearings.Kill pid) kind at = refl
+given-heard items (hearings.Poll pid) kind at = refl
+given-heard items hearings.Idle kind at = refl
+given-heard items hearings.Spent kind at = refl
+given-heard items (hearings.Posted batch) kind at = absurd (cc)
+given-heard items hearings.Spawned kind at = absurd (cc)
+given-heard items hearings.Used kind at = absurd (cc)
+given-heard items hearings.Killed kind at = absurd (cc)
+given-heard items hearings.Unused kind at = absurd (cc)
+given-heard items hearings.Already kind at = absurd (cc)
+given-heard items hearings.Noted kind at = absurd (cc)
 
-found_item : (used : Bool) (asking dead : ℕ) (items : List model.Item) (item : model.Item) → chosen_item used asking dead items ≡ Some item → find (is_eligible asking dead) items ≡ Some item
+found_item : (is_used_up : Bool) (asking dead : ℕ) (items : List model.Item) (item : model.Item) → chosen_item is_used_up asking dead items ≡ Some item → find (is_eligible asking dead) items ≡ Some item
 found_item true asking dead items item e = absurd (cc)
 found_item false asking dead items item e = e
 
 -- an answer with work is none where the allowed dispatches are used up
-pub no_work : (found : Option model.Item) (poller : Option ℕ) (used : Bool) → is_work (offer_of found poller used) ≡ true → used ≡ false
+pub no_work : (found : Option model.Item) (poller : Option ℕ) (is_used_up : Bool) → is_work (offer_of found poller is_used_up) ≡ true → is_used_up ≡ false
 no_work (Some item) poller true e = absurd (cc)
 no_work None (Some pid) true e = absurd (cc)
 no_work None None true e = absurd (cc)
 no_work found poller false e = refl
 
+-- ---- an order's call, its reply, and its room
+
+order-recorded : (order : Order) (pid : ℕ) (at : Place) (node_record : NodeRecord) → recorded_call (what_of_order order pid at node_record) ≡ Some (call_of_order order pid at)
+order-recorded (orders.Spawn image) pid at node_record = refl
+order-recorded orders.Kill pid at node_record = refl
+
+order-heard : (items : List model.Item) (order : Order) (pid : ℕ) (at : Place) (node_record : NodeRecord) (hearing : Hearing) → hearing ≡ hearing_of_order order at.pid node_record
+    → IsHearingOfEntry items (what_of_order order pid at node_record) hearing
+order-heard items (orders.Spawn image) pid at node_record hearing is = is
+order-heard items orders.Kill pid at node_record hearing is = is
+
+order-reply : {N : Type 0} (home : N → ℕ) (clean : N → Type 0) (parts : MachineParts) (state : MachineState) (user actor : ℕ) (order : Order) (pid : ℕ) (at : Place) (node_record : NodeRecord)
+    (reply : Reply N) → OfHeldCube state user (λ cube. IsHearingReply (actor_items state cube actor) (what_of_order order pid at node_record) reply)
+    → IsReplyTo home clean parts state user actor (what_of_order order pid at node_record) reply
+order-reply home clean parts state user actor (orders.Spawn image) pid at node_record reply is = is
+order-reply home clean parts state user actor orders.Kill pid at node_record reply is = is
+
+-- what is kept once the order is given keeps its limits, so there was room for it
+order-small : (actor node : ℕ) (order : Order) (pid : ℕ) (node_record : NodeRecord) → IsSmallRecord (effects.with_call_mark actor node (with_order order pid node_record)) → HasOrderRoom order pid node_record
+order-small actor node (orders.Spawn image) pid node_record small =
+    λ fresh. let is : with_order (orders.Spawn image) pid node_record ≡ with_start pid image node_record = ap (λ fresh. if fresh then with_start pid image node_record else node_record) fresh in (
+      omega (arith, small.waiting, ap (λ (node_record : NodeRecord). length node_record.waiting_items) is, length-append node_record.waiting_items (model.start pid image ∷ []), queue_room_lem, node_room_lem),
+      omega (arith, small.spawned, ap (λ (node_record : NodeRecord). length node_record.spawned_ids) is, length-append node_record.spawned_ids (pid ∷ [])),
+    )
+order-small actor node orders.Kill pid node_record small =
+    λ found. let is : with_order orders.Kill pid node_record ≡ with_kill Killed pid node_record = ap (λ found. with_kill found pid node_record) found in (
+      omega (arith, small.waiting, ap (λ (node_record : NodeRecord). length node_record.waiting_items) is, length-append node_record.waiting_items (model.kill pid ∷ []), queue_room_lem, node_room_lem),
+      omega (arith, small.killed, ap (λ (node_record : NodeRecord). length node_record.killed_ids) is, length-append node_record.killed_ids (pid ∷ [])),
+    )
+
 module _ (m : SoundMachine) (who : Who) where
-  open m use {parts, history as h, holding, desks, hosts, sound, few}
+  open m use {parts, history as h, table, desks, hosts, sound, few}
   open who use {family as user, actor}
 
   abbrev now : What → MachineState
   now what = next h (entry_of who.family who.actor what)
 
-  -- the caller is busy, and no desk changes otherwise
-  same_at : (what : What) (n : ℕ)
-      → ((node : ℕ) → (node == HOST) ≡ false → (now what).node_record node ≡ effects.with_call_mark who.actor node ((after h).node_record node)) → (node : ℕ) → (node == HOST) ≡ false
-      → (now what).node_record node ≡ change_at_node who.actor with_busy_mark node (change_at_node n (λ kept. kept) node ((after h).node_record node))
-  same_at what n each node apart =
-      each node apart ∙ busy-same actor node ((after h).node_record node) ∙ ap (change_at_node actor with_busy_mark node) (unchanged (n == node) ((after h).node_record node))
-
-  -- or the desk of a node changes
+  -- the caller is busy, and the desk of a node changes
   changed_at : (what : What) (n : ℕ) (change : NodeRecord → NodeRecord) → (now what).node_record n ≡ effects.with_call_mark who.actor n (change ((after h).node_record n))
       → ((node : ℕ) → (node == HOST) ≡ false → (n == node) ≡ false → (now what).node_record node ≡ effects.with_call_mark who.actor node ((after h).node_record node))
       → (node : ℕ) → (node == HOST) ≡ false
@@ -163,7 +181,7 @@ module _ (m : SoundMachine) (who : Who) where
         sound.tables.desk_is (node_of cube.grant.sub to.node)
         (placed-node parts.dim cube.grant (placed m user cube holds) to.node)
 
-    module _ (grant : Grant) (known : daemon.grant_held_by holding who.family ≡ Some grant) where
+    module _ (grant : Grant) (known : daemon.grant_held_by table who.family ≡ Some grant) where
       is_held : grant ≡ grant_held cube
       is_held = grant-is m user cube grant holds known
 
@@ -190,7 +208,7 @@ module _ (m : SoundMachine) (who : Who) where
         → {desks' : List NodeRecord} (change : ℕ → NodeRecord → NodeRecord) → AreChanged desks desks' change
         → ((node : ℕ) → (node == HOST) ≡ false → (now what).node_record node ≡ change node ((after h).node_record node))
         → cube_held_by (now what) who.family ≡ Some cube → IsReplyTo home clean parts (after h) who.family who.actor what reply → h' ≡ h ++ entry_of who.family who.actor what ∷ []
-        → IsDone home clean m h' holding desks' hosts who call reply
+        → HasMadeEntry home clean m h' table desks' hosts who call reply
     stays reply what made called fits answer cube holds {desks'} change changed each held reply_is is =
         done-with m who reply what fits answer reply_is is
         (tables-call m user actor what made called desks' hosts cube (host_at hosts user) changed.count
@@ -202,16 +220,16 @@ module _ (m : SoundMachine) (who : Who) where
 
     pub noted : {h' : List Entry} {pid word : ℕ} {desks' : List NodeRecord} → IsFittingCall home clean parts h who (calls.Say (say.Note pid word)) → AreChanged desks desks' (change_at_node who.actor with_busy_mark)
         → h' ≡ h ++ entry_of who.family who.actor (whats.Note pid word) ∷ []
-        → IsDone home clean m h' holding desks' hosts who (calls.Say (say.Note pid word)) (replies.Heard hearing.Noted)
+        → HasMadeEntry home clean m h' table desks' hosts who (calls.Say (say.Note pid word)) (replies.Heard hearings.Noted)
     noted {pid = pid} {word} fits changed is =
         let what = whats.Note pid word in
         let in_cube = noting fits in
         let each = acted.noted-each parts sound.machine h sound.lawful user in_cube.cube in_cube.holds actor pid word in_cube.is in
-        stays (replies.Heard hearing.Noted) what (note_call pid word) refl fits
+        stays (replies.Heard hearings.Noted) what (note_call pid word) refl fits
         (call-answered (after h) in_cube.cube actor parts user (note_call pid word) in_cube.holds ∙ ap Some (note-answer (after h) in_cube.cube actor pid word))
         in_cube.cube in_cube.holds (change_at_node who.actor with_busy_mark) changed (λ node apart. each node apart ∙ busy-same actor node ((after h).node_record node))
         (acted.noted-cube parts sound.machine h sound.lawful user in_cube.cube in_cube.holds actor pid word in_cube.is)
-        (if-held (after h) user (λ cube. IsHeard {N = N} (actor_items (after h) cube actor) what (replies.Heard hearing.Noted)) in_cube.cube in_cube.holds refl) is
+        (if-held (after h) user (λ cube. IsHearingReply {N = N} (actor_items (after h) cube actor) what (replies.Heard hearings.Noted)) in_cube.cube in_cube.holds refl) is
 
     -- ---- takes
 
@@ -228,222 +246,145 @@ module _ (m : SoundMachine) (who : Who) where
       taker_no_host : (who.actor == HOST) ≡ false
       taker_no_host = inside_no_host parts.dim taking.cube.grant (placed m user taking.cube taking.holds) actor taker
 
-      took : {h' : List Entry} (desk desk' : NodeRecord) (host host' : HostRecord) (heard : Hearing) → desk ≡ get_or desks who.actor desk → host ≡ get_or hosts who.family host
-          → result_of_hearing heard ≡ offer_of (find (is_eligible asking dead) desk.waiting_items) poller (host.made_dispatches == host.allowed_dispatches)
-          → heard_item heard ≡ chosen_item (host.made_dispatches == host.allowed_dispatches) asking dead desk.waiting_items → IsTrue (is_of_take heard)
+      took : {h' : List Entry} (desk desk' : NodeRecord) (host host' : HostRecord) (hearing : Hearing) → desk ≡ get_or desks who.actor desk → host ≡ get_or hosts who.family host
+          → result_of_hearing hearing ≡ offer_of (find (is_eligible asking dead) desk.waiting_items) poller (host.made_dispatches == host.allowed_dispatches)
+          → hearing_item hearing ≡ chosen_item (host.made_dispatches == host.allowed_dispatches) asking dead desk.waiting_items → IsTrue (is_take_hearing hearing)
           → desk' ≡ record desk {
             waiting_items = items_left (host.made_dispatches == host.allowed_dispatches) asking dead desk.waiting_items;
-            mark = record { is_idle = is_idle (result_of_hearing heard); asking = asking; dead = dead };
+            mark = record { is_idle = is_idle (result_of_hearing hearing); asking = asking; dead = dead };
           }
-          → host' ≡ record host { made_dispatches = if is_work (result_of_hearing heard) then host.made_dispatches + 1 else host.made_dispatches }
-          → h' ≡ h ++ entry_of who.family who.actor (whats.Take asking dead poller (result_of_hearing heard)) ∷ []
-          → IsDone home clean m h' holding (set desks who.actor desk') (set hosts who.family host') who (calls.Say (say.Take asking dead poller)) (replies.Heard heard)
-      took desk desk' host host' heard read_desk read_host given item kind desk_changed host_changed is =
+          → host' ≡ record host { made_dispatches = if is_work (result_of_hearing hearing) then host.made_dispatches + 1 else host.made_dispatches }
+          → h' ≡ h ++ entry_of who.family who.actor (whats.Take asking dead poller (result_of_hearing hearing)) ∷ []
+          → HasMadeEntry home clean m h' table (set desks who.actor desk') (set hosts who.family host') who (calls.Say (say.Take asking dead poller)) (replies.Heard hearing)
+      took desk desk' host host' hearing read_desk read_host given item kind desk_changed host_changed is =
           let cube = taking.cube in
           let machine = sound.machine in
-          let kept : NodeRecord = (after h).node_record actor in
-          let used : Bool = cube.made_dispatches == cube.allowed_dispatches in
-          let what = whats.Take asking dead poller (result_of_hearing heard) in
+          let node_record : NodeRecord = (after h).node_record actor in
+          let is_used_up : Bool = cube.made_dispatches == cube.allowed_dispatches in
+          let what = whats.Take asking dead poller (result_of_hearing hearing) in
           let below = user-below m user fits.fits.0 in
-          let desk_was : desk ≡ kept = desk-read desks actor desk taker-below read_desk ∙ sound.tables.desk_is actor (omega (arith, taker-below, sound.tables.desk_count)) in
+          let desk_was : desk ≡ node_record = desk-read desks actor desk taker-below read_desk ∙ sound.tables.desk_is actor (omega (arith, taker-below, sound.tables.desk_count)) in
           let host_was : host ≡ cube_host (Some cube) = host-read hosts user host below read_host ∙ host-held m user cube fits.fits.0 taking.holds in
-          let used_same : (host.made_dispatches == host.allowed_dispatches) ≡ used = ap (λ (host : HostRecord). host.made_dispatches == host.allowed_dispatches) host_was in
-          let items_same : desk.waiting_items ≡ kept.waiting_items = ap (λ (kept : NodeRecord). kept.waiting_items) desk_was in
-          let offer : offer_of (find (is_eligible asking dead) kept.waiting_items) poller used ≡ result_of_hearing heard =
-          sym (given ∙ ap₂ (λ items used. offer_of (find (is_eligible asking dead) items) poller used) items_same used_same) in
-          let found : (item : model.Item) → heard_item heard ≡ Some item → find (is_eligible asking dead) kept.waiting_items ≡ Some item =
-          λ one e. found_item used asking dead kept.waiting_items one (sym (item ∙ ap₂ (λ used items. chosen_item used asking dead items) used_same items_same) ∙ e) in
-          let left : items_left used asking dead kept.waiting_items ≡ without_taken (taken_result what) kept.waiting_items =
-          sym (take-left asking dead poller used kept.waiting_items (find (is_eligible asking dead) kept.waiting_items) refl
+          let used_same : (host.made_dispatches == host.allowed_dispatches) ≡ is_used_up = ap (λ (host : HostRecord). host.made_dispatches == host.allowed_dispatches) host_was in
+          let items_same : desk.waiting_items ≡ node_record.waiting_items = ap (λ (node_record : NodeRecord). node_record.waiting_items) desk_was in
+          let offer : offer_of (find (is_eligible asking dead) node_record.waiting_items) poller is_used_up ≡ result_of_hearing hearing =
+          sym (given ∙ ap₂ (λ items is_used_up. offer_of (find (is_eligible asking dead) items) poller is_used_up) items_same used_same) in
+          let found : (item : model.Item) → hearing_item hearing ≡ Some item → find (is_eligible asking dead) node_record.waiting_items ≡ Some item =
+          λ one e. found_item is_used_up asking dead node_record.waiting_items one (sym (item ∙ ap₂ (λ is_used_up items. chosen_item is_used_up asking dead items) used_same items_same) ∙ e) in
+          let left : items_left is_used_up asking dead node_record.waiting_items ≡ without_taken_item (taken_result what) node_record.waiting_items =
+          sym (take-left asking dead poller is_used_up node_record.waiting_items (find (is_eligible asking dead) node_record.waiting_items) refl
           (λ one e. taken-first parts machine h sound.lawful user cube taking.holds taking.is.not_drained actor taker asking dead one e))
-          ∙ ap (λ given. without_taken (taken_result (whats.Take asking dead poller given)) kept.waiting_items) offer in
-          let mark : Mark = record { is_idle = is_idle (result_of_hearing heard); asking = asking; dead = dead } in
-          let own : desk' ≡ record kept { waiting_items = without_taken (taken_result what) kept.waiting_items; mark = mark } =
-          desk_changed ∙ ap₂ (λ (desk : NodeRecord) (used : Bool). record desk { waiting_items = items_left used asking dead desk.waiting_items; mark = mark }) desk_was used_same
-          ∙ (λ i. record kept { waiting_items = left i; mark = mark }) in
-          done-with m who (replies.Heard heard) what fits
+          ∙ ap (λ given. without_taken_item (taken_result (whats.Take asking dead poller given)) node_record.waiting_items) offer in
+          let mark : Mark = record { is_idle = is_idle (result_of_hearing hearing); asking = asking; dead = dead } in
+          let own : desk' ≡ record node_record { waiting_items = without_taken_item (taken_result what) node_record.waiting_items; mark = mark } =
+          desk_changed ∙ ap₂ (λ (desk : NodeRecord) (is_used_up : Bool). record desk { waiting_items = items_left is_used_up asking dead desk.waiting_items; mark = mark }) desk_was used_same
+          ∙ (λ i. record node_record { waiting_items = left i; mark = mark }) in
+          done-with m who (replies.Heard hearing) what fits
           (call-answered (after h) cube actor parts user (take_call asking dead poller) taking.holds
-          ∙ ap Some (acted.took-as parts machine h sound.lawful user cube taking.holds actor asking dead poller taking.is (result_of_hearing heard) offer))
-          (if-held (after h) user (λ cube. IsHeard {N = N} (actor_items (after h) cube actor) what (replies.Heard heard)) cube taking.holds
-          (subst (λ (b : Bool). IsGiven (let kept : NodeRecord = if b then host_record cube else (after h).node_record actor in kept.waiting_items) (result_of_hearing heard) heard) (sym taker_no_host)
-          (given-heard kept.waiting_items heard kind (λ parcel e. taken-parcel parts machine h sound.lawful user cube taking.holds taking.is.not_drained actor taker asking dead (parcel_of parcel) (found (model.mail (parcel_of parcel)) e)))))
+          ∙ ap Some (acted.took-as parts machine h sound.lawful user cube taking.holds actor asking dead poller taking.is (result_of_hearing hearing) offer))
+          (if-held (after h) user (λ cube. IsHearingReply {N = N} (actor_items (after h) cube actor) what (replies.Heard hearing)) cube taking.holds
+          (subst (λ (b : Bool). IsHearingOfTake (let node_record : NodeRecord = if b then host_record cube else (after h).node_record actor in node_record.waiting_items) (result_of_hearing hearing) hearing) (sym taker_no_host)
+          (given-heard node_record.waiting_items hearing kind (λ parcel e. taken-parcel parts machine h sound.lawful user cube taking.holds taking.is.not_drained actor taker asking dead (parcel_of parcel) (found (model.mail (parcel_of parcel)) e)))))
           is
           (tables-call m user actor what (take_call asking dead poller) refl (set desks actor desk') (set hosts user host') _ host' (length-set desks actor desk')
           (λ node node_below apart. elim (cases_Bool (actor == node)) [
             | inl same ↦ subst (λ n. desk_at (set desks actor desk') n ≡ (now what).node_record n) (eqb-true actor node same)
                 (get_or-set_same desks actor desk' blank_record taker-below ∙ own
-                ∙ sym (acted.took-own parts machine h sound.lawful user cube taking.holds actor asking dead poller taking.is (result_of_hearing heard) offer))
+                ∙ sym (acted.took-own parts machine h sound.lawful user cube taking.holds actor asking dead poller taking.is (result_of_hearing hearing) offer))
             | inr differ ↦ get_or-set_other desks actor node desk' blank_record (differs actor node differ) ∙ sound.tables.desk_is node node_below
-                ∙ sym (acted.took-other parts machine h sound.lawful user cube taking.holds actor asking dead poller taking.is (result_of_hearing heard) offer node apart differ)
+                ∙ sym (acted.took-other parts machine h sound.lawful user cube taking.holds actor asking dead poller taking.is (result_of_hearing hearing) offer node apart differ)
           ])
           (host-set hosts user host' host' below refl)
-          (acted.took-cube parts machine h sound.lawful user cube taking.holds actor asking dead poller taking.is (result_of_hearing heard) offer)
-          (host_changed ∙ ap (λ (host : HostRecord). record host { made_dispatches = if is_work (result_of_hearing heard) then host.made_dispatches + 1 else host.made_dispatches }) host_was))
+          (acted.took-cube parts machine h sound.lawful user cube taking.holds actor asking dead poller taking.is (result_of_hearing hearing) offer)
+          (host_changed ∙ ap (λ (host : HostRecord). record host { made_dispatches = if is_work (result_of_hearing hearing) then host.made_dispatches + 1 else host.made_dispatches }) host_was))
 
       -- the same, step by step
-      pub took-by : {h' : List Entry} {desk between desk' : NodeRecord} {host host' : HostRecord} (heard : Hearing) {used work idle : Bool} {given : TakeResult} → desk ≡ get_or desks who.actor desk
-          → host ≡ get_or hosts who.family host → used ≡ (host.made_dispatches == host.allowed_dispatches) → given ≡ result_of_hearing heard → work ≡ is_work given → idle ≡ is_idle given
-          → result_of_hearing heard ≡ offer_of (find (is_eligible asking dead) desk.waiting_items) poller used → heard_item heard ≡ chosen_item used asking dead desk.waiting_items → IsTrue (is_of_take heard)
-          → between ≡ record desk { waiting_items = items_left used asking dead desk.waiting_items } → desk' ≡ record between { mark = record { is_idle = idle; asking = asking; dead = dead } }
+      pub took-by : {h' : List Entry} {desk between desk' : NodeRecord} {host host' : HostRecord} (hearing : Hearing) {is_used_up work idle : Bool} {given : TakeResult} → desk ≡ get_or desks who.actor desk
+          → host ≡ get_or hosts who.family host → is_used_up ≡ (host.made_dispatches == host.allowed_dispatches) → given ≡ result_of_hearing hearing → work ≡ is_work given → idle ≡ is_idle given
+          → result_of_hearing hearing ≡ offer_of (find (is_eligible asking dead) desk.waiting_items) poller is_used_up → hearing_item hearing ≡ chosen_item is_used_up asking dead desk.waiting_items → IsTrue (is_take_hearing hearing)
+          → between ≡ record desk { waiting_items = items_left is_used_up asking dead desk.waiting_items } → desk' ≡ record between { mark = record { is_idle = idle; asking = asking; dead = dead } }
           → host' ≡ record host { made_dispatches = if work then host.made_dispatches + 1 else host.made_dispatches }
           → h' ≡ h ++ entry_of who.family who.actor (whats.Take asking dead poller given) ∷ []
-          → IsDone home clean m h' holding (set desks who.actor desk') (set hosts who.family host') who (calls.Say (say.Take asking dead poller)) (replies.Heard heard)
-      took-by {h'} {desk} {between} {desk'} {host} {host'} heard {used} {work} {idle} {given} read_desk read_host used_is given_is work_is idle_is offer item kind between_is desk_is host_is is =
-          let idle_now : idle ≡ is_idle (result_of_hearing heard) = idle_is ∙ ap is_idle given_is in
-          let work_now : work ≡ is_work (result_of_hearing heard) = work_is ∙ ap is_work given_is in
-          took desk desk' host host' heard read_desk read_host (offer ∙ ap (λ used. offer_of (find (is_eligible asking dead) desk.waiting_items) poller used) used_is)
-          (item ∙ ap (λ used. chosen_item used asking dead desk.waiting_items) used_is) kind
+          → HasMadeEntry home clean m h' table (set desks who.actor desk') (set hosts who.family host') who (calls.Say (say.Take asking dead poller)) (replies.Heard hearing)
+      took-by {h'} {desk} {between} {desk'} {host} {host'} hearing {is_used_up} {work} {idle} {given} read_desk read_host used_is given_is work_is idle_is offer item kind between_is desk_is host_is is =
+          let idle_now : idle ≡ is_idle (result_of_hearing hearing) = idle_is ∙ ap is_idle given_is in
+          let work_now : work ≡ is_work (result_of_hearing hearing) = work_is ∙ ap is_work given_is in
+          took desk desk' host host' hearing read_desk read_host (offer ∙ ap (λ is_used_up. offer_of (find (is_eligible asking dead) desk.waiting_items) poller is_used_up) used_is)
+          (item ∙ ap (λ is_used_up. chosen_item is_used_up asking dead desk.waiting_items) used_is) kind
           (desk_is ∙ ap (λ (between : NodeRecord). record between { mark = record { is_idle = idle; asking = asking; dead = dead } }) between_is
           ∙ (λ i. record desk { waiting_items = items_left (used_is i) asking dead desk.waiting_items; mark = record { is_idle = idle_now i; asking = asking; dead = dead } }))
           (host_is ∙ (λ i. record host { made_dispatches = if work_now i then host.made_dispatches + 1 else host.made_dispatches }))
           (is ∙ ap (λ given. h ++ entry_of who.family who.actor (whats.Take asking dead poller given) ∷ []) given_is)
 
       -- work is given only where dispatches are left
-      pub work-left : (items : List model.Item) (heard : Hearing) {used used' work : Bool} {given : TakeResult} → used ≡ used' → given ≡ result_of_hearing heard → work ≡ is_work given
-          → result_of_hearing heard ≡ offer_of (find (is_eligible asking dead) items) poller used → work ≡ true → used' ≡ false
-      work-left items heard {used} {used'} {work} {given} used_is given_is work_is offer works =
-          sym used_is ∙ no_work (find (is_eligible asking dead) items) poller used (ap is_work (sym (given_is ∙ offer)) ∙ sym work_is ∙ works)
+      pub work-left : (items : List model.Item) (hearing : Hearing) {is_used_up used' work : Bool} {given : TakeResult} → is_used_up ≡ used' → given ≡ result_of_hearing hearing → work ≡ is_work given
+          → result_of_hearing hearing ≡ offer_of (find (is_eligible asking dead) items) poller is_used_up → work ≡ true → used' ≡ false
+      work-left items hearing {is_used_up} {used'} {work} {given} used_is given_is work_is offer works =
+          sym used_is ∙ no_work (find (is_eligible asking dead) items) poller is_used_up (ap is_work (sym (given_is ∙ offer)) ∙ sym work_is ∙ works)
 
-    -- ---- spawns and kills
+    -- ---- orders
 
-    module _ {pid image : ℕ} {to : Place} (fits : IsFittingCall home clean parts h who (calls.Say (say.Spawn pid image to))) where
-      pub spawning : IsIn h who.family (IsCallOf parts h who.actor (spawn_call pid image to))
-      spawning = is-in h user (IsCallOf parts h actor (spawn_call pid image to)) fits.fits.1
+    module _ (order : Order) (pid : ℕ) (to : Place) (fits : IsFittingCall home clean parts h who (calls.Say (say_of_order order pid to))) where
+      pub ordering : IsIn h who.family (IsCallOf parts h who.actor (call_of_order order pid to))
+      ordering = is-in h user (IsCallOf parts h actor (call_of_order order pid to)) fits.fits.1
 
-      pub spawn_place : (to.node < 2 ^ spawning.cube.grant.dim) × (to.pid < process_count)
-      spawn_place =
-          place_parts spawning.cube.grant.dim to (call-places parts sound.machine h sound.lawful user spawning.cube spawning.holds actor (spawn_call pid image to) spawning.is)
+      pub order_place : (to.node < 2 ^ ordering.cube.grant.dim) × (to.pid < process_count)
+      order_place = acted.order-place parts sound.machine h sound.lawful user ordering.cube ordering.holds actor order pid to ordering.is
 
-      was_fresh : (fresh : Bool) → fresh ≡ not (is_among to.pid (desk_at desks (node_of spawning.cube.grant.sub to.node)).spawned_ids)
-          → not (is_among to.pid ((after h).node_record (node_of spawning.cube.grant.sub to.node)).spawned_ids) ≡ fresh
-      was_fresh fresh is = sym (is ∙ ap (λ (kept : NodeRecord). not (is_among to.pid kept.spawned_ids)) (kept_at spawning.cube spawning.holds to spawn_place))
+      -- the node of the place, what is kept for it, and the entry
+      abbrev order_at : ℕ
+      order_at = node_of ordering.cube.grant.sub to.node
 
-      spawn_said : (fresh : Bool) → fresh ≡ not (is_among to.pid (desk_at desks (node_of spawning.cube.grant.sub to.node)).spawned_ids)
-          → what_of_request parts (after h) who.family who.actor (request_of {N = N} (calls.Say (say.Spawn pid image to))) ≡ Some (whats.Spawn pid image (place_of spawning.cube to) fresh)
-      spawn_said fresh is =
-          call-answered (after h) spawning.cube actor parts user (spawn_call pid image to) spawning.holds
-          ∙ ap Some (acted.spawned-as parts sound.machine h sound.lawful user spawning.cube spawning.holds actor pid image to spawning.is fresh (was_fresh fresh is))
+      abbrev order_kept : NodeRecord
+      order_kept = (after h).node_record order_at
 
-      spawn_each : (fresh : Bool) → not (is_among to.pid ((after h).node_record (node_of spawning.cube.grant.sub to.node)).spawned_ids) ≡ fresh → (node : ℕ) → (node == HOST) ≡ false
-          → (now (whats.Spawn pid image (place_of spawning.cube to) fresh)).node_record node
-          ≡ change_at_node who.actor with_busy_mark node (change_at_node (node_of spawning.cube.grant.sub to.node) (λ kept. if fresh then with_start to.pid image kept else kept) node ((after h).node_record node))
-      spawn_each false e =
-          same_at (whats.Spawn pid image (place_of spawning.cube to) false) (node_of spawning.cube.grant.sub to.node)
-          (acted.spawn_used-each parts sound.machine h sound.lawful user spawning.cube spawning.holds actor pid image to spawning.is e)
-      spawn_each true e =
-          changed_at (whats.Spawn pid image (place_of spawning.cube to) true) (node_of spawning.cube.grant.sub to.node) (with_start to.pid image)
-          (acted.spawned-here parts sound.machine h sound.lawful user spawning.cube spawning.holds actor pid image to spawning.is e)
-          (acted.spawned-away parts sound.machine h sound.lawful user spawning.cube spawning.holds actor pid image to spawning.is true e)
+      abbrev order_made : What
+      order_made = what_of_order order pid (place_of ordering.cube to) order_kept
 
-      pub spawned : {h' : List Entry} {grant : Grant} {at : Place} {fresh : Bool} {told : Hearing} {mid desks' : List NodeRecord} → daemon.grant_held_by holding who.family ≡ Some grant → at ≡ place_outward grant.sub to
-          → fresh ≡ not (is_among at.pid (desk_at desks at.node).spawned_ids)
-          → AreChanged desks mid (change_at_node at.node (λ kept. if fresh then with_start at.pid image kept else kept)) → AreChanged mid desks' (change_at_node who.actor with_busy_mark)
-          → told ≡ (if fresh then hearing.Spawned else hearing.Used)
-          → h' ≡ h ++ entry_of who.family who.actor (whats.Spawn pid image at fresh) ∷ []
-          → IsDone home clean m h' holding desks' hosts who (calls.Say (say.Spawn pid image to)) (replies.Heard told)
-      spawned {h'} {grant} {at} {fresh} {told} {mid} {desks'} known at_outward =
-          let cube = spawning.cube in
-          let P : Place → Type 0 = λ at. fresh ≡ not (is_among at.pid (desk_at desks at.node).spawned_ids)
-          → AreChanged desks mid (change_at_node at.node (λ kept. if fresh then with_start at.pid image kept else kept)) → AreChanged mid desks' (change_at_node who.actor with_busy_mark)
-          → told ≡ (if fresh then hearing.Spawned else hearing.Used) → h' ≡ h ++ entry_of who.family who.actor (whats.Spawn pid image at fresh) ∷ []
-          → IsDone home clean m h' holding desks' hosts who (calls.Say (say.Spawn pid image to)) (replies.Heard told) in
-          let done : P (place_of cube to) = λ fresh_is first second told_is is.
-          let what = whats.Spawn pid image (place_of cube to) fresh in
-          let change : ℕ → NodeRecord → NodeRecord = λ node kept. change_at_node who.actor with_busy_mark node (change_at_node (node_of cube.grant.sub to.node) (λ kept. if fresh then with_start to.pid image kept else kept) node kept) in
-          stays (replies.Heard told) what (spawn_call pid image (place_of cube to)) refl fits (spawn_said fresh fresh_is) cube spawning.holds change
-          (chained desks mid desks' (change_at_node (node_of cube.grant.sub to.node) (λ kept. if fresh then with_start to.pid image kept else kept)) (change_at_node who.actor with_busy_mark) first second)
-          (spawn_each fresh (was_fresh fresh fresh_is))
-          (acted.spawned-cube parts sound.machine h sound.lawful user cube spawning.holds actor pid image to spawning.is fresh (was_fresh fresh fresh_is))
-          (if-held (after h) user (λ cube. IsHeard {N = N} (actor_items (after h) cube actor) what (replies.Heard told)) cube spawning.holds told_is) is in
-          subst P (sym (at_is cube spawning.holds to spawn_place grant known at at_outward)) done
+      order_answer : what_of_request parts (after h) who.family who.actor (request_of {N = N} (calls.Say (say_of_order order pid to)))
+          ≡ Some (what_of_order order pid (place_of ordering.cube to) ((after h).node_record (node_of ordering.cube.grant.sub to.node)))
+      order_answer =
+          call-answered (after h) ordering.cube actor parts user (call_of_order order pid to) ordering.holds
+          ∙ ap Some (acted.ordered-as parts sound.machine h sound.lawful user ordering.cube ordering.holds actor order pid to ordering.is)
 
-      -- there is room for the process on its desk
-      module _ {grant : Grant} {at : Place} (known : daemon.grant_held_by holding who.family ≡ Some grant) (at_outward : at ≡ place_outward grant.sub to) where
-        pub spawn-room : not (is_among at.pid (desk_at desks at.node).spawned_ids) ≡ true → HasStartRoom (desk_at desks at.node)
-        spawn-room = subst (λ (at : Place). not (is_among at.pid (desk_at desks at.node).spawned_ids) ≡ true → HasStartRoom (desk_at desks at.node)) (sym (at_is spawning.cube spawning.holds to spawn_place grant known at at_outward)) (λ fresh. has_room fresh)
-          where
-            has_room : not (is_among to.pid (desk_at desks (node_of spawning.cube.grant.sub to.node)).spawned_ids) ≡ true → HasStartRoom (desk_at desks (node_of spawning.cube.grant.sub to.node))
-            has_room fresh =
-                let n = node_of spawning.cube.grant.sub to.node in
-                let what = whats.Spawn pid image (place_of spawning.cube to) true in
-                let lawful = more-lawful m home clean who (calls.Say (say.Spawn pid image to)) fits what (spawn_said true (sym fresh)) in
-                let small = node-limits parts (h ++ entry_of who.family who.actor what ∷ []) sound.machine lawful n in
-                let is = acted.spawned-here parts sound.machine h sound.lawful user spawning.cube spawning.holds actor pid image to spawning.is (was_fresh true (sym fresh)) in
-                let kept = (after h).node_record n in
-                let waits : length kept.waiting_items + 1 ≤ node_room =
-                omega (arith, small.waiting, ap (λ (kept : NodeRecord). length kept.waiting_items) is, length-append kept.waiting_items (model.start to.pid image ∷ []), queue_room_lem, node_room_lem) in
-                let ids : length kept.spawned_ids + 1 ≤ process_count =
-                omega (arith, small.spawned, ap (λ (kept : NodeRecord). length kept.spawned_ids) is, length-append kept.spawned_ids (to.pid ∷ [])) in
-                subst HasStartRoom (sym (kept_at spawning.cube spawning.holds to spawn_place)) (omega (arith, waits), omega (arith, ids))
+      -- at a place that the code has at hand the desk shows the same
+      module _ {grant : Grant} {at : Place} (known : daemon.grant_held_by table who.family ≡ Some grant) (at_outward : at ≡ place_outward grant.sub to) where
+        order_at_is : at ≡ place_of ordering.cube to
+        order_at_is = at_is ordering.cube ordering.holds to order_place grant known at at_outward
 
-    module _ {pid : ℕ} {to : Place} (fits : IsFittingCall home clean parts h who (calls.Say (say.Kill pid to))) where
-      pub killing : IsIn h who.family (IsCallOf parts h who.actor (kill_call pid to))
-      killing = is-in h user (IsCallOf parts h actor (kill_call pid to)) fits.fits.1
+        at_desk : {X : Type 0} (f : Place → NodeRecord → X) → f at (desk_at desks at.node) ≡ f (place_of ordering.cube to) ((after h).node_record (node_of ordering.cube.grant.sub to.node))
+        at_desk f =
+            ap (λ (at : Place). f at (desk_at desks at.node)) order_at_is
+            ∙ ap (f (place_of ordering.cube to)) (kept_at ordering.cube ordering.holds to order_place)
 
-      pub kill_place : (to.node < 2 ^ killing.cube.grant.dim) × (to.pid < process_count)
-      kill_place =
-          place_parts killing.cube.grant.dim to (call-places parts sound.machine h sound.lawful user killing.cube killing.holds actor (kill_call pid to) killing.is)
+        pub ordered : {h' : List Entry} {what : What} {hearing : Hearing} {mid desks' : List NodeRecord}
+            → what ≡ what_of_order order pid at (desk_at desks at.node) → hearing ≡ hearing_of_order order at.pid (desk_at desks at.node)
+            → AreChanged desks mid (change_at_node at.node (with_order order at.pid)) → AreChanged mid desks' (change_at_node who.actor with_busy_mark)
+            → h' ≡ h ++ entry_of who.family who.actor what ∷ []
+            → HasMadeEntry home clean m h' table desks' hosts who (calls.Say (say_of_order order pid to)) (replies.Heard hearing)
+        ordered {h'} {what} {hearing} {mid} {desks'} what_is heard_is first second is =
+            let cube = ordering.cube in
+            let n = order_at in
+            let made : what ≡ order_made = what_is ∙ at_desk (what_of_order order pid) in
+            let change : ℕ → NodeRecord → NodeRecord = λ node node_record. change_at_node who.actor with_busy_mark node (change_at_node n (with_order order to.pid) node node_record) in
+            stays (replies.Heard hearing) order_made (call_of_order order pid (place_of cube to)) (order-recorded order pid (place_of cube to) order_kept) fits order_answer cube ordering.holds change
+            (chained desks mid desks' (change_at_node n (with_order order to.pid)) (change_at_node who.actor with_busy_mark)
+            (subst (λ (at : Place). AreChanged desks mid (change_at_node at.node (with_order order at.pid))) order_at_is first) second)
+            (changed_at order_made n (with_order order to.pid)
+            (acted.ordered-here parts sound.machine h sound.lawful user cube ordering.holds actor order pid to ordering.is)
+            (acted.ordered-away parts sound.machine h sound.lawful user cube ordering.holds actor order pid to ordering.is))
+            (acted.ordered-cube parts sound.machine h sound.lawful user cube ordering.holds actor order pid to ordering.is)
+            (order-reply home clean parts (after h) user actor order pid (place_of cube to) order_kept (replies.Heard hearing)
+            (if-held (after h) user (λ cube. IsHearingReply {N = N} (actor_items (after h) cube actor) order_made (replies.Heard hearing)) cube ordering.holds
+            (order-heard (actor_items (after h) cube actor) order pid (place_of cube to) order_kept hearing (heard_is ∙ at_desk (λ at node_record. hearing_of_order order at.pid node_record)))))
+            (is ∙ ap (λ what. h ++ entry_of who.family who.actor what ∷ []) made)
 
-      was_found : (found : KillFound) → found ≡ kill_found (desk_at desks (node_of killing.cube.grant.sub to.node)) to.pid
-          → kill_found ((after h).node_record (node_of killing.cube.grant.sub to.node)) to.pid ≡ found
-      was_found found is = sym (is ∙ ap (λ (kept : NodeRecord). kill_found kept to.pid) (kept_at killing.cube killing.holds to kill_place))
-
-      kill_said : (found : KillFound) → found ≡ kill_found (desk_at desks (node_of killing.cube.grant.sub to.node)) to.pid
-          → what_of_request parts (after h) who.family who.actor (request_of {N = N} (calls.Say (say.Kill pid to))) ≡ Some (whats.Kill pid (place_of killing.cube to) found)
-      kill_said found is =
-          call-answered (after h) killing.cube actor parts user (kill_call pid to) killing.holds
-          ∙ ap Some (acted.killed-as parts sound.machine h sound.lawful user killing.cube killing.holds actor pid to killing.is found (was_found found is))
-
-      kill_each : (found : KillFound) → kill_found ((after h).node_record (node_of killing.cube.grant.sub to.node)) to.pid ≡ found → (node : ℕ) → (node == HOST) ≡ false
-          → (now (whats.Kill pid (place_of killing.cube to) found)).node_record node
-          ≡ change_at_node who.actor with_busy_mark node (change_at_node (node_of killing.cube.grant.sub to.node) (λ kept. with_kill found to.pid kept) node ((after h).node_record node))
-      kill_each Unused e =
-          same_at (whats.Kill pid (place_of killing.cube to) Unused) (node_of killing.cube.grant.sub to.node)
-          (acted.kill_unused-each parts sound.machine h sound.lawful user killing.cube killing.holds actor pid to killing.is e)
-      kill_each Already e =
-          same_at (whats.Kill pid (place_of killing.cube to) Already) (node_of killing.cube.grant.sub to.node)
-          (acted.kill_already-each parts sound.machine h sound.lawful user killing.cube killing.holds actor pid to killing.is e)
-      kill_each Killed e =
-          changed_at (whats.Kill pid (place_of killing.cube to) Killed) (node_of killing.cube.grant.sub to.node) (with_kill Killed to.pid)
-          (acted.killed-here parts sound.machine h sound.lawful user killing.cube killing.holds actor pid to killing.is e)
-          (acted.killed-away parts sound.machine h sound.lawful user killing.cube killing.holds actor pid to killing.is Killed e)
-
-      pub killed : {h' : List Entry} {grant : Grant} {at : Place} {found : KillFound} {heard : Hearing} {mid desks' : List NodeRecord} → daemon.grant_held_by holding who.family ≡ Some grant → at ≡ place_outward grant.sub to
-          → found ≡ kill_found (desk_at desks at.node) at.pid
-          → AreChanged desks mid (change_at_node at.node (λ kept. with_kill found at.pid kept)) → AreChanged mid desks' (change_at_node who.actor with_busy_mark)
-          → heard ≡ kill_hearing found
-          → h' ≡ h ++ entry_of who.family who.actor (whats.Kill pid at found) ∷ []
-          → IsDone home clean m h' holding desks' hosts who (calls.Say (say.Kill pid to)) (replies.Heard heard)
-      killed {h'} {grant} {at} {found} {heard} {mid} {desks'} known at_outward =
-          let cube = killing.cube in
-          let P : Place → Type 0 = λ at. found ≡ kill_found (desk_at desks at.node) at.pid
-          → AreChanged desks mid (change_at_node at.node (λ kept. with_kill found at.pid kept)) → AreChanged mid desks' (change_at_node who.actor with_busy_mark)
-          → heard ≡ kill_hearing found → h' ≡ h ++ entry_of who.family who.actor (whats.Kill pid at found) ∷ []
-          → IsDone home clean m h' holding desks' hosts who (calls.Say (say.Kill pid to)) (replies.Heard heard) in
-          let done : P (place_of cube to) = λ found_is first second heard_is is.
-          let what = whats.Kill pid (place_of cube to) found in
-          let change : ℕ → NodeRecord → NodeRecord = λ node kept. change_at_node who.actor with_busy_mark node (change_at_node (node_of cube.grant.sub to.node) (λ kept. with_kill found to.pid kept) node kept) in
-          stays (replies.Heard heard) what (kill_call pid (place_of cube to)) refl fits (kill_said found found_is) cube killing.holds change
-          (chained desks mid desks' (change_at_node (node_of cube.grant.sub to.node) (λ kept. with_kill found to.pid kept)) (change_at_node who.actor with_busy_mark) first second)
-          (kill_each found (was_found found found_is))
-          (acted.killed-cube parts sound.machine h sound.lawful user cube killing.holds actor pid to killing.is found (was_found found found_is))
-          (if-held (after h) user (λ cube. IsHeard {N = N} (actor_items (after h) cube actor) what (replies.Heard heard)) cube killing.holds heard_is) is in
-          subst P (sym (at_is cube killing.holds to kill_place grant known at at_outward)) done
-
-      module _ {grant : Grant} {at : Place} (known : daemon.grant_held_by holding who.family ≡ Some grant) (at_outward : at ≡ place_outward grant.sub to) where
-        pub kill-room : kill_found (desk_at desks at.node) at.pid ≡ Killed → HasKillRoom (desk_at desks at.node)
-        kill-room = subst (λ (at : Place). kill_found (desk_at desks at.node) at.pid ≡ Killed → HasKillRoom (desk_at desks at.node)) (sym (at_is killing.cube killing.holds to kill_place grant known at at_outward)) (λ found. has_room found)
-          where
-            has_room : kill_found (desk_at desks (node_of killing.cube.grant.sub to.node)) to.pid ≡ Killed → HasKillRoom (desk_at desks (node_of killing.cube.grant.sub to.node))
-            has_room found =
-                let n = node_of killing.cube.grant.sub to.node in
-                let what = whats.Kill pid (place_of killing.cube to) Killed in
-                let lawful = more-lawful m home clean who (calls.Say (say.Kill pid to)) fits what (kill_said Killed (sym found)) in
-                let small = node-limits parts (h ++ entry_of who.family who.actor what ∷ []) sound.machine lawful n in
-                let is = acted.killed-here parts sound.machine h sound.lawful user killing.cube killing.holds actor pid to killing.is (was_found Killed (sym found)) in
-                let kept = (after h).node_record n in
-                let waits : length kept.waiting_items + 1 ≤ node_room =
-                omega (arith, small.waiting, ap (λ (kept : NodeRecord). length kept.waiting_items) is, length-append kept.waiting_items (model.kill to.pid ∷ []), queue_room_lem, node_room_lem) in
-                let ids : length kept.killed_ids + 1 ≤ process_count =
-                omega (arith, small.killed, ap (λ (kept : NodeRecord). length kept.killed_ids) is, length-append kept.killed_ids (to.pid ∷ [])) in
-                subst HasKillRoom (sym (kept_at killing.cube killing.holds to kill_place)) (omega (arith, waits), omega (arith, ids))
+        -- there is room for it on its desk
+        pub order-room : HasOrderRoom order at.pid (desk_at desks at.node)
+        order-room =
+            subst (λ (at : Place). HasOrderRoom order at.pid (desk_at desks at.node)) (sym order_at_is)
+            (subst (HasOrderRoom order to.pid) (sym (kept_at ordering.cube ordering.holds to order_place))
+            (order-small who.actor order_at order to.pid order_kept
+            (subst IsSmallRecord (acted.ordered-here parts sound.machine h sound.lawful user ordering.cube ordering.holds actor order pid to ordering.is)
+            (node-limits parts (h ++ entry_of who.family who.actor order_made ∷ []) sound.machine
+            (more-lawful m home clean who (calls.Say (say_of_order order pid to)) fits order_made order_answer) order_at))))

@@ -19,18 +19,18 @@ use Rattle.ce_model.specs.Subcubes.{relative_number}
 use Rattle.ce_model.specs.Renaming.{CubeGrant, number_outward, place_outward, renamed_targets}
 use Rattle.ce_model.specs.Machine.{HeldCube, after, what_of_request, IsCallOf}
 use Rattle.ce_solo.proofs.Projection.Numbers.{IsPlaced, IsNumber, place_in_out}
-use Rattle.ce_solo.proofs.Projection.Kinds.{entry_of}
+use Rattle.ce_model.specs.Literals.{entry_of}
 use Rattle.ce_lock.specs.declared.who.Who.{Who}
 use Rattle.ce_daemon.specs.declared.grant.Grant.{Grant}
 use Rattle.ce_daemon.specs.Holding as daemon
 use Rattle.rk_mail.specs.declared.talk.Hearing.{Hearing}
 use Rattle.rk_mail.specs.declared.talk.Say.TheVariants as say
-use Rattle.rk_mail.specs.declared.talk.Hearing.TheVariants as hearing
+use Rattle.rk_mail.specs.declared.talk.Hearing.TheVariants as hearings
 use Rattle.rk_mail.specs.Targets.{bytes_of, HasEqualBytes, targets_of}
 use Rattle.ce_machine.specs.declared.call.Call.TheVariants as calls
 use Rattle.ce_machine.specs.declared.call.Reply.TheVariants as replies
 use Rattle.ce_machine.specs.Requests.{request_of, IsFittingCall}
-use Rattle.ce_machine.specs.Replies.{IsHeard, actor_items}
+use Rattle.ce_machine.specs.Replies.{IsHearingReply, actor_items}
 use Rattle.ce_machine.specs.Tables.{HostRecord, cube_host}
 use Rattle.ce_machine.specs.Desks.{AreChanged, change_at_node, with_busy_mark, with_items, letter, letters, IsInCube, HasMailRoom}
 use Rattle.ce_machine.proofs.Changes.{next}
@@ -39,7 +39,7 @@ use Rattle.ce_machine.proofs.Called.{IsTarget, target-number, target-pid, call-p
 use Rattle.ce_machine.proofs.Answered.{call-answered, send-answer}
 use Rattle.ce_machine.proofs.CallEffects.{mails_at, sent-each, sent-cube, sent-room, sent-mail_room}
 use Rattle.ce_machine.proofs.Holdings.{grant_held}
-use Rattle.ce_machine.proofs.Entries.{SoundMachine, IsIn, is-in, if-held, host-set, host-read, host-held, user-below, node-below, placed, grant-is, desks-changed, tables-call, more-lawful, IsDone, done-with}
+use Rattle.ce_machine.proofs.Entries.{SoundMachine, IsIn, is-in, if-held, host-set, host-read, host-held, user-below, node-below, placed, grant-is, desks-changed, tables-call, more-lawful, HasMadeEntry, done-with}
 use Rattle.ce_machine.proofs.SayEntries.{chained}
 
 -- a fact of every place in a list, read off its positions
@@ -76,7 +76,7 @@ module _ (dim : ℕ) (grant : CubeGrant) (at : IsPlaced dim grant) (actor pid : 
 
 module _ {N : Type 0} {home : N → ℕ} {clean : N → Type 0} (m : SoundMachine) (who : Who) {pid : ℕ} {batch : List (Place × Block)}
     (fits : IsFittingCall home clean m.parts m.history who (calls.Say (say.Send pid batch))) where
-  open m use {parts, history as h, holding, desks, hosts, sound, few}
+  open m use {parts, history as h, table, desks, hosts, sound, few}
   open who use {family as user, actor}
 
   abbrev to : List (Place × BlockId)
@@ -121,7 +121,7 @@ module _ {N : Type 0} {home : N → ℕ} {clean : N → Type 0} (m : SoundMachin
           greatest_targets_lem,
         )
 
-    module _ {grant : Grant} (known : daemon.grant_held_by holding who.family ≡ Some grant) where
+    module _ {grant : Grant} (known : daemon.grant_held_by table who.family ≡ Some grant) where
       same_grant : grant ≡ grant_held sending.cube
       same_grant = grant-is m user cube grant sending.holds known
 
@@ -147,7 +147,7 @@ module _ {N : Type 0} {home : N → ℕ} {clean : N → Type 0} (m : SoundMachin
                   arith,
                   sent-room parts sound.machine h sound.lawful user cube sending.holds actor pid to bytes sending.is lawful' node (node-below m node inside),
                   ap length (arrive node),
-                  ap (λ (kept : NodeRecord). length kept.waiting_items) (sound.tables.desk_is node inside),
+                  ap (λ (node_record : NodeRecord). length node_record.waiting_items) (sound.tables.desk_is node inside),
                   room.queue_room_lem,
                   node_room_lem,
                 );
@@ -165,13 +165,13 @@ module _ {N : Type 0} {home : N → ℕ} {clean : N → Type 0} (m : SoundMachin
           (subst (λ count. HasMailRoom cube.grant.sub (record { node = relative_number cube.grant.sub actor; pid = pid }) count batch desks host') (sym count) own))
 
       pub sent : {h' : List Entry} {host host' host'' : HostRecord} {first long sender : ℕ} {mid desks' : List NodeRecord} {at_places : List (Place × BlockId)} {sent_bytes : List ℕ} {told : Hearing}
-          → told ≡ hearing.Posted [] → host ≡ get_or hosts who.family host → first ≡ host.parcel_count → long ≡ length batch
+          → told ≡ hearings.Posted [] → host ≡ get_or hosts who.family host → first ≡ host.parcel_count → long ≡ length batch
           → host' ≡ record host { parcel_count = host.parcel_count + long } → sender ≡ relative_number grant.sub who.actor
           → AreChanged desks mid (λ node. with_items (letters grant.sub (record { node = sender; pid = pid }) first batch node))
           → host'' ≡ record host' { mail = host'.mail ++ letters grant.sub (record { node = sender; pid = pid }) first batch HOST }
           → AreChanged mid desks' (change_at_node who.actor with_busy_mark) → at_places ≡ renamed_targets (place_outward grant.sub) (λ id. id) (targets_of batch) → sent_bytes ≡ bytes_of batch
           → h' ≡ h ++ entry_of who.family who.actor (whats.Send pid first at_places sent_bytes) ∷ []
-          → IsDone home clean m h' holding desks' (set hosts who.family host'') who (calls.Say (say.Send pid batch)) (replies.Heard told)
+          → HasMadeEntry home clean m h' table desks' (set hosts who.family host'') who (calls.Say (say.Send pid batch)) (replies.Heard told)
       sent {h'} {host} {host'} {host''} {first} {long} {sender} {mid} {desks'} {at_places} {sent_bytes} {told} told_is read first_is long_is counted sender_is posted host_is busied places_are bytes_are is =
           let below = user-below m user fits.fits.0 in
           let posts : ℕ → List Item = λ node. letters grant.sub (record { node = sender; pid = pid }) first batch node in
@@ -185,7 +185,7 @@ module _ {N : Type 0} {home : N → ℕ} {clean : N → Type 0} (m : SoundMachin
           let places : at_places ≡ renamed_targets (place_outward cube.grant.sub) (λ id. id) to =
           places_are ∙ ap (λ (g : Grant). renamed_targets (place_outward g.sub) (λ id. id) to) same_grant in
           let what_is : whats.Send pid first at_places sent_bytes ≡ made = λ i. whats.Send pid (count i) (places i) (bytes_are i) in
-          let change : ℕ → NodeRecord → NodeRecord = λ node kept. change_at_node actor with_busy_mark node (with_items (posts node) kept) in
+          let change : ℕ → NodeRecord → NodeRecord = λ node node_record. change_at_node actor with_busy_mark node (with_items (posts node) node_record) in
           let each : (node : ℕ) → (node == HOST) ≡ false → (next h (entry_of who.family who.actor made)).node_record node ≡ change node ((after h).node_record node) =
           λ node apart. sent-each parts sound.machine h sound.lawful user cube sending.holds actor pid to bytes sending.is node apart
           ∙ busy_with (actor == node) ((after h).node_record node) (arrived node)
@@ -198,7 +198,7 @@ module _ {N : Type 0} {home : N → ℕ} {clean : N → Type 0} (m : SoundMachin
             mail = cube.mail ++ all HOST i;
           }) in
           done-with m who (replies.Heard told) made fits said
-          (if-held (after h) user (λ cube. IsHeard {N = N} (actor_items (after h) cube actor) made (replies.Heard told)) cube sending.holds told_is)
+          (if-held (after h) user (λ cube. IsHearingReply {N = N} (actor_items (after h) cube actor) made (replies.Heard told)) cube sending.holds told_is)
           (is ∙ ap (λ what. h ++ entry_of who.family who.actor what ∷ []) what_is)
           (tables-call m user actor made (send_call pid (renamed_targets (place_outward cube.grant.sub) (λ id. id) to) bytes) refl desks' (set hosts user host'') _ host''
           (busied.count ∙ posted.count)
@@ -207,8 +207,8 @@ module _ {N : Type 0} {home : N → ℕ} {clean : N → Type 0} (m : SoundMachin
           (host-set hosts user host'' host'' below refl)
           (sent-cube parts sound.machine h sound.lawful user cube sending.holds actor pid to bytes sending.is) host_now)
         where
-          busy_with : (own : Bool) (kept : NodeRecord) (items : List Item)
-              → record kept { waiting_items = kept.waiting_items ++ items; mark = if own then record kept.mark { is_idle = false } else kept.mark }
-              ≡ (if own then with_busy_mark (with_items items kept) else with_items items kept)
-          busy_with true kept items = refl
-          busy_with false kept items = refl
+          busy_with : (own : Bool) (node_record : NodeRecord) (items : List Item)
+              → record node_record { waiting_items = node_record.waiting_items ++ items; mark = if own then record node_record.mark { is_idle = false } else node_record.mark }
+              ≡ (if own then with_busy_mark (with_items items node_record) else with_items items node_record)
+          busy_with true node_record items = refl
+          busy_with false node_record items = refl

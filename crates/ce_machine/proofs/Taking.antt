@@ -1,4 +1,5 @@
--- What a node or a host takes: the first item that it can be given is the one that the entry names, and the only one of that name.
+-- What a node or a host takes: the first item that it can be given is the one that the entry names,
+-- and the only one of that name.
 use Rattle.std.proofs.Common.{◌≡◌, ℕ, ◌≤◌, Bool, true, false, ◌==◌, if◌then◌else◌, List, [], ◌∷◌, map, find, count_by, Some, option_and_then, refl, ap, sym, ◌∙◌, inl, inr, arith}
 use Rattle.std.proofs.lemmas.Bool.{cases_Bool}
 use Rattle.ce_model.specs.declared.topology.BlockId.{BlockId}
@@ -34,7 +35,8 @@ found-counts test named (y ∷ ys) x found is =
       | inr f ↦ let later : find test ys ≡ Some x = rw f at found in omega (arith, count_by-cons named y ys, found-counts test named ys x later is)
     ]
 
--- where only one member passes the second test, and it is the first that passes the first, both take it out
+-- where only one member passes the second test, and it is the first that passes the first, both
+-- take it out
 same-without : {X : Type 0} (test named : X → Bool) (xs : List X) (x : X) → find test xs ≡ Some x → named x ≡ true → count_by named xs ≤ 1
     → without_first named xs ≡ without_first test xs
 same-without test named [] x found is once = refl
@@ -88,14 +90,14 @@ module _ (parts : MachineParts) (machine : IsMachine parts) (h : List Entry) (la
       let s = left_now parts machine h lawful user cube holds in
       let r = extract node cube.grant.sub.mask in
       let below = inside_below parts.dim cube.grant was.placed node inside in
-      let kept = s.standing.node_record r in
-      let is : items ≡ map (renamed_item (block_outward cube.grant)) kept.waiting_items =
+      let node_record = s.standing.node_record r in
+      let is : items ≡ map (renamed_item (block_outward cube.grant)) node_record.waiting_items =
       ap (λ n. ((after h).node_record n).waiting_items) (sym (node_of-extract cube.grant.sub node inside)) ∙ ap (λ (k : NodeRecord). k.waiting_items) ((was.kept goes).nodes r below) in
       omega (
         arith,
         ap (count_by (is_named_by (take_result_of item))) is,
-        count-renamed (block_outward cube.grant) (take_result_of item) kept.waiting_items,
-        named_once (own parts machine h lawful user cube holds) s.standing.parcel_count r kept item ((sound-now parts machine h lawful user cube holds goes).records r below),
+        count-renamed (block_outward cube.grant) (take_result_of item) node_record.waiting_items,
+        named_once (own parts machine h lawful user cube holds) s.standing.parcel_count r node_record item ((sound-now parts machine h lawful user cube holds goes).records r below),
       )
 
   -- the first item that the node can be given is the one that the entry takes out

@@ -9,11 +9,11 @@ use Rattle.rk_mail.specs.declared.talk.Hearing.TheVariants.{Start, Mail, Kill, P
 use Rattle.rk_mail.specs.Items.{parcel_of}
 
 -- the item that a node hears of, if any
-abbrev pub heard_item : Hearing → Option Item
-heard_item (Start pid image) = Some (start pid image)
-heard_item (Mail parcel) = Some (mail (parcel_of parcel))
-heard_item (Kill pid) = Some (kill pid)
-heard_item other = None
+abbrev pub hearing_item : Hearing → Option Item
+hearing_item (Start pid image) = Some (start pid image)
+hearing_item (Mail parcel) = Some (mail (parcel_of parcel))
+hearing_item (Kill pid) = Some (kill pid)
+hearing_item other = None
 
 -- how an entry names what a node hears
 abbrev pub result_of_hearing : Hearing → TakeResult
@@ -26,8 +26,10 @@ result_of_hearing other = take_result.Idle
 
 -- the item that a node is given, if any, by whether the allowed dispatches are used up
 abbrev pub chosen_item : Bool → ℕ → ℕ → List Item → Option Item
-chosen_item used asking dead items = if used then None else find (is_eligible asking dead) items
+chosen_item is_used_up asking dead items =
+    if is_used_up then None else find (is_eligible asking dead) items
 
 -- what waits then
 abbrev pub items_left : Bool → ℕ → ℕ → List Item → List Item
-items_left used asking dead items = if used then items else without_first (is_eligible asking dead) items
+items_left is_used_up asking dead items =
+    if is_used_up then items else without_first (is_eligible asking dead) items

@@ -3,6 +3,7 @@ pub mod Replies
 pub mod Meanings
 pub mod Tables
 pub mod Desks
+pub mod Orders
 pub mod Answering
 pub mod Gives
 pub mod Keeping

@@ -1,4 +1,5 @@
--- The machine as a book sees it that keeps it: what never changes of it, its history, and what each of its entries means.
+-- The machine as a book sees it that keeps it: what never changes of it, its history, and what each
+-- of its entries means.
 use Rattle.std.specs.Prelude.{◌≡◌, ℕ, Bool, true, false, List, Some}
 use Rattle.ce_model.specs.declared.entry.Entry.{Entry}
 use Rattle.ce_model.specs.declared.entry.What.{What}
@@ -33,8 +34,13 @@ is_alone_what other = false
 abbrev pub is_alone_entry : Entry → Bool
 is_alone_entry entry = is_alone_what entry.what
 
--- behind this history the entry is the one of the call of this user or of its node, and the reply is the one that the call gets
-pub record IsAnsweredBy {N : Type 0} (home : N → ℕ) (clean : N → Type 0) (parts : MachineParts) (before : List Entry) (entry : Entry) (who : Who) (call : Call N) (reply : Reply N) : Type 0 where
+-- behind this history the entry is the one of the call of this user or of its node, and the reply
+-- is the one that the call gets
+pub record IsAnsweredBy {N : Type 0} (home : N → ℕ) (clean : N → Type 0) (parts : MachineParts)
+    (earlier_entries : List Entry) (entry : Entry) (who : Who) (call : Call N)
+    (reply : Reply N) : Type 0 where
   pub whose_is : whose entry ≡ who
-  pub answer : what_of_request parts (after before) who.family who.actor (request_of call) ≡ Some entry.what
-  pub reply_is : IsReplyTo home clean parts (after before) who.family who.actor entry.what reply
+  pub answer : what_of_request parts (after earlier_entries) who.family who.actor (request_of call)
+      ≡ Some entry.what
+  pub reply_is : IsReplyTo home clean parts
+      (after earlier_entries) who.family who.actor entry.what reply

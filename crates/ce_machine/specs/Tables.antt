@@ -1,4 +1,5 @@
--- What the machine keeps for its nodes, its hosts and its daemon, by the state that its history leaves.
+-- What the machine keeps for its nodes, its hosts and its daemon, by the state that its history
+-- leaves.
 use Rattle.std.specs.Prelude.{◌≡◌, ℕ, ◌^◌, ◌<◌, Bool, false, List, [], Option, Some, None, map, length, slice_index_or}
 use Rattle.ce_model.specs.declared.entry.Entry.{Entry}
 use Rattle.ce_model.specs.Parcels.{Item}
@@ -7,7 +8,8 @@ use Rattle.ce_model.specs.Machine.{MachineParts, MachineState, HeldCube, IsMachi
 use Rattle.ce_daemon.specs.Holding.{GrantTable}
 use Rattle.ce_daemon.specs.Peeks.{numbered_grant}
 
--- what the machine keeps for a user's host: whether the user's cube is drained, its counts, and what waits for the host
+-- what the machine keeps for a user's host: whether the user's cube is drained, its counts, and
+-- what waits for the host
 pub record HostRecord : Type 0 where
   pub is_drained : Bool
   pub allowed_dispatches : ℕ
@@ -17,7 +19,13 @@ pub record HostRecord : Type 0 where
 
 -- what it keeps for the host of a user without a cube
 abbrev pub blank_host : HostRecord
-blank_host = record { is_drained = false; allowed_dispatches = 0; made_dispatches = 0; parcel_count = 0; mail = [] }
+blank_host = record {
+  is_drained = false;
+  allowed_dispatches = 0;
+  made_dispatches = 0;
+  parcel_count = 0;
+  mail = [];
+}
 
 -- what it keeps for the host of the user of this cube, if any
 abbrev pub cube_host : Option HeldCube → HostRecord
@@ -39,18 +47,23 @@ host_at hosts user = slice_index_or hosts user blank_host
 
 -- what the daemon of a machine of this dimension has granted in this state
 abbrev pub grant_table : ℕ → MachineState → GrantTable
-grant_table dim state = record { dim = dim; count = state.grant_count; grants = map numbered_grant (held_grants state) }
+grant_table dim state =
+    record { dim = dim; count = state.grant_count; grants = map numbered_grant (held_grants state) }
 
 -- the tables of a machine show this state
-pub record AreTables (parts : MachineParts) (state : MachineState) (holding : GrantTable) (desks : List NodeRecord) (hosts : List HostRecord) : Type 0 where
-  pub holding_is : holding ≡ grant_table parts.dim state
+pub record AreTables (parts : MachineParts) (state : MachineState) (table : GrantTable)
+    (desks : List NodeRecord) (hosts : List HostRecord) : Type 0 where
+  pub table_is : table ≡ grant_table parts.dim state
   pub desk_count : length desks ≡ 2 ^ parts.dim
   pub desk_is : (node : ℕ) → node < 2 ^ parts.dim → desk_at desks node ≡ state.node_record node
   pub host_count : length hosts ≡ parts.users
-  pub host_is : (user : ℕ) → user < parts.users → host_at hosts user ≡ cube_host (cube_held_by state user)
+  pub host_is : (user : ℕ) → user < parts.users → host_at hosts user
+      ≡ cube_host (cube_held_by state user)
 
--- a machine is within its limits, its history is lawful, and its tables show what the history leaves
-pub record IsSoundMachine (parts : MachineParts) (history : List Entry) (holding : GrantTable) (desks : List NodeRecord) (hosts : List HostRecord) : Type 0 where
+-- a machine is within its limits, its history is lawful, and its tables show what the history
+-- leaves
+pub record IsSoundMachine (parts : MachineParts) (history : List Entry) (table : GrantTable)
+    (desks : List NodeRecord) (hosts : List HostRecord) : Type 0 where
   pub machine : IsMachine parts
   pub lawful : IsLawful parts history
-  pub tables : AreTables parts (after history) holding desks hosts
+  pub tables : AreTables parts (after history) table desks hosts

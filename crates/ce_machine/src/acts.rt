@@ -71,26 +71,29 @@ impl<N: Homed> Machine<N> {
         ensures refused { IfErr result (λ back. (self.new ≡ self.old) × (back.0 ≡ call)) }
     {
         match call {
-            Call::Getcube { dim } => or_back(self.getcube(alloc, who, dim), Call::Getcube { dim }),
-            Call::Peek => or_back(self.peek(alloc, who), Call::Peek),
-            Call::Drain => or_back(self.drain(alloc, who), Call::Drain),
+            Call::Getcube { dim } => reply_or_call(
+                self.getcube(alloc, who, dim),
+                Call::Getcube { dim },
+            ),
+            Call::Peek => reply_or_call(self.peek(alloc, who), Call::Peek),
+            Call::Drain => reply_or_call(self.drain(alloc, who), Call::Drain),
             Call::Freecube { boxes } => match self.freecube(who, boxes) {
                 Ok(reply) => Ok(reply),
                 Err((boxes, error)) => Err((Call::Freecube { boxes }, error)),
             },
-            Call::Arm { count } => or_back(self.arm(who, count), Call::Arm { count }),
-            Call::Look => or_back(self.look(who), Call::Look),
-            Call::HostTake => or_back(self.host_take(who), Call::HostTake),
-            Call::Say(said) => match self.say(alloc, who, said) {
+            Call::Arm { count } => reply_or_call(self.arm(who, count), Call::Arm { count }),
+            Call::Look => reply_or_call(self.look(who), Call::Look),
+            Call::HostTake => reply_or_call(self.host_take(who), Call::HostTake),
+            Call::Say(say) => match self.say(alloc, who, say) {
                 Ok(reply) => Ok(reply),
-                Err((said, error)) => Err((Call::Say(said), error)),
+                Err((say, error)) => Err((Call::Say(say), error)),
             },
         }
     }
 }
 
 // The reply, or with no memory the call.
-fn or_back<N: Homed>(
+fn reply_or_call<N: Homed>(
     reply: Result<Reply<N>, NoMemory>,
     call: Call<N>,
 ) -> Result<Reply<N>, (Call<N>, NoMemory)>

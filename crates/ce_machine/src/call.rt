@@ -3,7 +3,8 @@ use ce_daemon::{Grant, Homed, PeekResult};
 use rk_mail::{Hearing, Parcel, Say};
 use xm_block::Block;
 
-/// What an actor of a user asks of the machine. Places are the cube's, blocks have the machine's names.
+/// What an actor of a user asks of the machine. Places are the cube's, blocks have the machine's
+/// names.
 #[derive(Drop)]
 pub enum Call<N: Homed> {
     /// A host asks for a cube.
@@ -47,7 +48,8 @@ pub enum Reply<N: Homed> {
     NoneFree,
     /// To a Peek.
     Peeked(PeekResult),
-    /// To a Drain: the blocks of all messages that waited, at the nodes in relative order and then for the host.
+    /// To a Drain: the blocks of all messages that waited, at the nodes in relative order and then
+    /// for the host.
     Drained(Vec<Block>),
     /// To a Freecube.
     Freed,

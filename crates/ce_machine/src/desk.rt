@@ -1,22 +1,25 @@
 ghost use Rattle.std.specs.List.{list_any};
-ghost use Rattle.std.specs.Prelude.{◌≡◌, ℕ, ◌+◌, ◌<◌, ◌≤◌, Bool, false, List, [], ◌∷◌, ◌++◌, length, find, map, Some, None, IfOk, IfSome, IfNone, option_map, vec_capacity};
+ghost use Rattle.std.specs.Prelude.{◌≡◌, ℕ, ◌+◌, ◌<◌, ◌≤◌, Bool, false, not, List, [], ◌∷◌, ◌++◌, length, find, map, Some, None, IfSome, IfNone, option_map, vec_capacity};
 ghost use Rattle.ce_model.specs.Limits.{process_count, node_room};
 ghost use Rattle.ce_model.specs.Lists.{without_first};
-ghost use Rattle.ce_model.specs.Parcels.{start, mail, kill, is_eligible, item_parcels};
+ghost use Rattle.ce_model.specs.Parcels.{mail, is_eligible, item_parcels};
 ghost use Rattle.ce_model.specs.Trace.{NodeRecord, blank_record};
-ghost use Rattle.ce_model.specs.Answers.{is_among, kill_found, is_quiet_node};
+ghost use Rattle.ce_model.specs.Answers.{is_among, kill_result, is_quiet_node};
 ghost use Rattle.rk_mail.specs.Items.{item_of, parcel_of};
+ghost use Rattle.ce_machine.specs.Orders.{HasOrderRoom, with_order};
 
+use crate::blank::Blank;
 use crate::mail::take_blocks;
-use ce_model::{KillFound, NODE_ROOM, NoMemory, PROCESS_COUNT};
+use crate::order::Order;
+use ce_model::{KillResult, NODE_ROOM, NoMemory, PROCESS_COUNT};
 use rk_mail::{Item, Mailbox, Parcel};
 use std::alloc::Global;
 use std::marker::Model;
 use xm_block::Block;
 
-/// What the machine keeps for a node: what waits there, the ids that were spawned and those whose kill was accepted, whether
-/// its last entry is a Take answered Idle or it has none, and the sets of its last Take. It has room for all that can wait.
-/// Contracts see the model's record.
+/// What the machine keeps for a node: what waits there, the ids that were spawned and those whose
+/// kill was accepted, whether its last entry is a Take answered Idle or it has none, and the sets
+/// of its last Take. It has room for all that can wait. Contracts see the model's record.
 #[derive(Drop)]
 pub(crate) struct Desk {
     mailbox: Mailbox,
@@ -50,12 +53,11 @@ impl Model for Desk {
         × (process_count ≤ vec_capacity desk.killed_ids) };
 }
 
-impl Desk {
-    /// The desk of a node of which nothing is known.
+impl Blank for Desk {
+    ghost blank = { blank_record };
+
     #[tactic(auto, using(ce_model::specs::Limits::node_room_lem, ce_model::specs::Limits::process_count_lem))]
-    pub(crate) fn new(alloc: Global) -> Result<Desk, NoMemory>
-        ensures { IfOk result (λ desk. desk ≡ blank_record) }
-    {
+    fn new(alloc: Global) -> Result<Desk, NoMemory> {
         let mailbox = Mailbox::new(alloc, NODE_ROOM)?;
         let spawned_ids = Vec::with_capacity(alloc, PROCESS_COUNT as usize)?;
         let killed_ids = Vec::with_capacity(alloc, PROCESS_COUNT as usize)?;
@@ -68,7 +70,9 @@ impl Desk {
             dead: 0,
         })
     }
+}
 
+impl Desk {
     /// How many items wait.
     pub(crate) fn count(&self) -> u32
         ensures value { result ≡ length self.now.waiting_items }
@@ -88,51 +92,46 @@ impl Desk {
         self.mailbox.post(Item::Mail(parcel));
     }
 
-    /// The start of a process waits from now on; its id is used.
-    pub(crate) fn start(&mut self, pid: u32, image: u32)
-        requires room { length self.old.waiting_items < node_room }
-        requires ids { length self.old.spawned_ids < process_count }
+    /// Has a process start, unless its id was used before; whether it wasn't.
+    pub(crate) fn start(&mut self, pid: u32, image: u32) -> bool
         requires process { pid < process_count }
-        ensures { self.new ≡ record self.old {
-          waiting_items = self.old.waiting_items ++ start pid image ∷ [];
-          spawned_ids = self.old.spawned_ids ++ pid ∷ [];
-        } }
+        requires room { HasOrderRoom (Order.Spawn image) pid self.old }
+        ensures fresh { result ≡ not (is_among pid self.old.spawned_ids) }
+        ensures desk { self.new ≡ with_order (Order.Spawn image) pid self.old }
     {
-        self.mailbox.post(Item::Start { pid, image });
-        self.spawned_ids.push_reserved(pid);
+        let fresh = !contains(&self.spawned_ids, pid);
+        if fresh {
+            self.mailbox.post(Item::Start { pid, image });
+            self.spawned_ids.push_reserved(pid);
+        }
+        fresh
     }
 
-    /// The end of a process waits from now on.
-    pub(crate) fn kill(&mut self, pid: u32)
-        requires room { length self.old.waiting_items < node_room }
-        requires ids { length self.old.killed_ids < process_count }
+    /// Has a process end, if it was started and its end wasn't asked for before; which it is.
+    pub(crate) fn kill(&mut self, pid: u32) -> KillResult
         requires process { pid < process_count }
-        ensures { self.new ≡ record self.old {
-          waiting_items = self.old.waiting_items ++ kill pid ∷ [];
-          killed_ids = self.old.killed_ids ++ pid ∷ [];
-        } }
+        requires room { HasOrderRoom Order.Kill pid self.old }
+        ensures found { result ≡ kill_result self.old pid }
+        ensures desk { self.new ≡ with_order Order.Kill pid self.old }
     {
-        self.mailbox.post(Item::Kill { pid });
-        self.killed_ids.push_reserved(pid);
+        let found = self.kill_found(pid);
+        if let KillResult::Killed = found {
+            self.mailbox.post(Item::Kill { pid });
+            self.killed_ids.push_reserved(pid);
+        }
+        found
     }
 
-    /// Whether the id was spawned.
-    pub(crate) fn was_spawned(&self, pid: u32) -> bool
-        ensures { result ≡ is_among pid self.now.spawned_ids }
-    {
-        contains(&self.spawned_ids, pid)
-    }
-
-    /// What a kill of the id finds.
-    pub(crate) fn kill_found(&self, pid: u32) -> KillFound
-        ensures { result ≡ kill_found self.now pid }
+    // What a kill of the id finds.
+    fn kill_found(&self, pid: u32) -> KillResult
+        ensures { result ≡ kill_result self.now pid }
     {
         if !contains(&self.spawned_ids, pid) {
-            KillFound::Unused
+            KillResult::Unused
         } else if contains(&self.killed_ids, pid) {
-            KillFound::Already
+            KillResult::Already
         } else {
-            KillFound::Killed
+            KillResult::Killed
         }
     }
 
@@ -155,7 +154,8 @@ impl Desk {
         self.mailbox.has(asking, dead)
     }
 
-    /// The node has asked for work with these sets; whether it was answered that there is nothing to do.
+    /// The node has asked for work with these sets; whether it was answered that there is nothing
+    /// to do.
     pub(crate) fn mark_take(&mut self, asking: u32, dead: u32, is_idle: bool)
         ensures { self.new ≡ record self.old {
           mark = record { is_idle = is_idle; asking = asking; dead = dead };
@@ -180,7 +180,8 @@ impl Desk {
         self.is_idle && !self.mailbox.has(self.asking, self.dead)
     }
 
-    /// Takes all that waits out, and puts the blocks of the messages behind those that were taken before.
+    /// Takes all that waits out, and puts the blocks of the messages behind those that were taken
+    /// before.
     pub(crate) fn drain(&mut self, blocks: &mut Vec<Block>)
         requires { length blocks.old.items + length self.old.waiting_items
             ≤ vec_capacity blocks.old }

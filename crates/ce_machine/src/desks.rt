@@ -1,49 +1,26 @@
-ghost use Rattle.std.specs.Prelude.{◌≡◌, ◌⊎◌, ℕ, ◌+◌, ◌^◌, ◌<◌, ◌≤◌, ◌==◌, if◌then◌else◌, IsTrue, not, List, [], ◌∷◌, ◌++◌, length, map, flat_map, vec_capacity, IfOk};
+ghost use Rattle.std.specs.Prelude.{◌≡◌, ◌⊎◌, ℕ, ◌+◌, ◌^◌, ◌<◌, ◌≤◌, ◌==◌, if◌then◌else◌, List, [], ◌∷◌, ◌++◌, length, map, flat_map, vec_capacity};
 ghost use Rattle.std.specs.List.{list_all, AllByRecursion, range_with_len};
 ghost use Rattle.ce_model.specs.declared.topology.TheConstants.{HOST};
 ghost use Rattle.ce_model.specs.Limits.{greatest_dim, process_count, node_room, mail_room};
 ghost use Rattle.ce_model.specs.Parcels.{mail, item_parcels};
 ghost use Rattle.ce_model.specs.Trace.{NodeRecord, blank_record};
-ghost use Rattle.ce_model.specs.Answers.{is_quiet_node, is_among, kill_found};
+ghost use Rattle.ce_model.specs.Answers.{is_quiet_node};
 ghost use Rattle.ce_model.specs.Renaming.{number_outward, place_outward, renamed_targets};
 ghost use Rattle.ce_model.specs.Subcubes.{node_of, relative_number, IsSubcube};
 ghost use Rattle.rk_mail.specs.Items.{parcel_of};
 ghost use Rattle.rk_mail.specs.Targets.{targets_of};
-ghost use Rattle.ce_machine.specs.Tables.{HostRecord, blank_host, desk_at, host_at};
-ghost use Rattle.ce_machine.specs.Desks.{AreChanged, change_at_node, change_at_nodes, with_busy_mark, with_items, without_items, IsOnDesks, letters, IsInCube, HasMailRoom, HasStartRoom, HasKillRoom, with_start, with_kill};
+ghost use Rattle.ce_machine.specs.Tables.{HostRecord, desk_at};
+ghost use Rattle.ce_machine.specs.Desks.{AreChanged, change_at_node, change_at_nodes, with_busy_mark, with_items, without_items, IsOnDesks, letters, IsInCube, HasMailRoom};
+ghost use Rattle.ce_machine.specs.Orders.{HasOrderRoom, what_of_order, hearing_of_order, with_order};
 
 use crate::desk::Desk;
 use crate::host_desk::HostDesk;
+use crate::order::Order;
 use ce_daemon::Grant;
-use ce_model::{BlockId, HOST, KillFound, NoMemory, Place, Subcube};
+use ce_model::{BlockId, HOST, Place, Subcube, What};
 use ce_set::{extract, node_of};
-use rk_mail::{Batch, Parcel};
-use std::alloc::Global;
+use rk_mail::{Batch, Hearing, Parcel, kill_hearing, spawn_hearing};
 use xm_block::Block;
-
-// The desks of so many nodes of which nothing is known.
-pub(crate) fn blank_desks(alloc: Global, count: u32) -> Result<Vec<Desk>, NoMemory>
-    ensures count { IfOk result (λ desks. length desks.items ≡ count) }
-    ensures each { IfOk result (λ desks. (node : ℕ) → desk_at desks.items node ≡ blank_record) }
-{
-    let mut desks = Vec::with_capacity(alloc, count as usize)?;
-    for _ in 0..count {
-        desks.push_reserved(Desk::new(alloc)?);
-    }
-    Ok(desks)
-}
-
-// The desks of the hosts of so many users, none of whom has a cube.
-pub(crate) fn blank_hosts(alloc: Global, count: u32) -> Result<Vec<HostDesk>, NoMemory>
-    ensures count { IfOk result (λ hosts. length hosts.items ≡ count) }
-    ensures each { IfOk result (λ hosts. (user : ℕ) → host_at hosts.items user ≡ blank_host) }
-{
-    let mut hosts = Vec::with_capacity(alloc, count as usize)?;
-    for _ in 0..count {
-        hosts.push_reserved(HostDesk::new(alloc)?);
-    }
-    Ok(hosts)
-}
 
 // A node has made an entry that isn't a Take; a host is no node.
 pub(crate) fn mark_busy(desks: &mut Vec<Desk>, actor: u32)
@@ -57,41 +34,45 @@ pub(crate) fn mark_busy(desks: &mut Vec<Desk>, actor: u32)
     }
 }
 
-// Has a process of a node started, at this place of the machine, unless its id was used before; whether it wasn't.
-pub(crate) fn start(desks: &mut Vec<Desk>, at: Place, image: u32) -> bool
-    requires node { at.node < length desks.old.items }
-    requires process { at.pid < process_count }
-    requires room { IsTrue (not (is_among at.pid (desk_at desks.old.items at.node).spawned_ids))
-        → HasStartRoom (desk_at desks.old.items at.node) }
-    ensures fresh { result ≡ not (is_among at.pid (desk_at desks.old.items at.node).spawned_ids) }
+// Carries out an order of process `pid` at this place of the machine: its entry, and what is heard
+// of it.
+pub(crate) fn carry_out(
+    desks: &mut Vec<Desk>,
+    order: Order,
+    pid: u32,
+    place: Place,
+) -> (What, Hearing)
+    requires node { place.node < length desks.old.items }
+    requires process { place.pid < process_count }
+    requires room { HasOrderRoom order place.pid (desk_at desks.old.items place.node) }
+    ensures entry { result.0 ≡ what_of_order order pid place (desk_at desks.old.items place.node) }
+    ensures heard { result.1
+        ≡ hearing_of_order order place.pid (desk_at desks.old.items place.node) }
     ensures desks { AreChanged desks.old.items desks.new.items
-        (change_at_node at.node (λ kept. if result then with_start at.pid image kept else kept)) }
+        (change_at_node place.node (with_order order place.pid)) }
 {
-    let desk = &mut desks[at.node as usize];
-    let fresh = !desk.was_spawned(at.pid);
-    if fresh {
-        desk.start(at.pid, image);
+    let desk = &mut desks[place.node as usize];
+    match order {
+        Order::Spawn { image } => {
+            let fresh = desk.start(place.pid, image);
+            let what = What::Spawn {
+                pid,
+                image,
+                to: place,
+                fresh,
+            };
+            (what, spawn_hearing(fresh))
+        }
+        Order::Kill => {
+            let found = desk.kill(place.pid);
+            let what = What::Kill {
+                pid,
+                to: place,
+                found,
+            };
+            (what, kill_hearing(found))
+        }
     }
-    fresh
-}
-
-// Has a process of a node ended, at this place of the machine, if it was started and its end wasn't asked for before; which it is.
-pub(crate) fn kill(desks: &mut Vec<Desk>, at: Place) -> KillFound
-    requires node { at.node < length desks.old.items }
-    requires process { at.pid < process_count }
-    requires room { kill_found (desk_at desks.old.items at.node) at.pid ≡ KillFound.Killed
-        → HasKillRoom (desk_at desks.old.items at.node) }
-    ensures found { result ≡ kill_found (desk_at desks.old.items at.node) at.pid }
-    ensures desks { AreChanged desks.old.items desks.new.items
-        (change_at_node at.node (λ kept. with_kill result at.pid kept)) }
-{
-    let desk = &mut desks[at.node as usize];
-    let found = desk.kill_found(at.pid);
-    match found {
-        KillFound::Killed => desk.kill(at.pid),
-        KillFound::Unused | KillFound::Already => {}
-    }
-    found
 }
 
 // Whether all nodes of a cube are quiet.
@@ -122,7 +103,8 @@ pub(crate) fn waiting_count(desks: &Vec<Desk>, grant: &Grant) -> usize
     count
 }
 
-// Takes all that waits at the nodes of a cube out, in relative order, and puts the blocks of the messages behind one another.
+// Takes all that waits at the nodes of a cube out, in relative order, and puts the blocks of the
+// messages behind one another.
 pub(crate) fn drain_nodes(desks: &mut Vec<Desk>, grant: &Grant, blocks: &mut Vec<Block>)
     requires sub { IsOnDesks (length desks.old.items) grant.now.dim grant.now.sub }
     requires room { length blocks.old.items
@@ -148,7 +130,7 @@ pub(crate) fn clear_nodes(desks: &mut Vec<Desk>, grant: &Grant)
     requires empty { (r : ℕ) → r < 2 ^ grant.now.dim
         → (desk_at desks.old.items (node_of grant.now.sub r)).waiting_items ≡ [] }
     ensures { AreChanged desks.old.items desks.new.items
-        (change_at_nodes grant.now.sub (λ kept. blank_record)) }
+        (change_at_nodes grant.now.sub (λ node_record. blank_record)) }
 {
     for r in 0..node_count(grant) {
         let desk = &mut desks[node_at(grant, r)];
@@ -180,8 +162,8 @@ fn post(desks: &mut Vec<Desk>, host: &mut HostDesk, grant: &Grant, parcel: Parce
     }
 }
 
-// Posts a message to each of its places, in order, with numbers from `first` on; the emptied batch. The places and the names of the
-// blocks go behind `targets`, by the machine's numbers.
+// Posts a message to each of its places, in order, with numbers from `first` on; the emptied batch.
+// The places and the names of the blocks go behind `targets`, by the machine's numbers.
 pub(crate) fn post_all(
     desks: &mut Vec<Desk>,
     host: &mut HostDesk,

@@ -1,16 +1,17 @@
 ghost use Rattle.std.specs.Prelude.{◌≡◌, IsTrue, find};
-ghost use Rattle.rk_mail.specs.Talk.{is_of_take};
+ghost use Rattle.rk_mail.specs.Talk.{is_take_hearing};
 ghost use Rattle.ce_model.specs.Parcels.{is_eligible};
 ghost use Rattle.ce_model.specs.Trace.{is_work, is_idle};
 ghost use Rattle.ce_model.specs.Answers.{offer_of};
-ghost use Rattle.ce_machine.specs.Gives.{heard_item, result_of_hearing, chosen_item, items_left};
+ghost use Rattle.ce_machine.specs.Gives.{hearing_item, result_of_hearing, chosen_item, items_left};
 
 use crate::desk::Desk;
 use ce_model::TakeResult;
 use rk_mail::{Hearing, Item};
 
-// Gives a node that asks for work the first item that it can be given, or else tells the process that polls longest that no
-// message is there. Nothing is given where the allowed dispatches are used up.
+// Gives a node that asks for work the first item that it can be given, or else tells the process
+// that polls longest that no message is there. Nothing is given where the allowed dispatches are
+// used up.
 #[tactic(auto, using(crate::proofs::Gives::spent_polling, crate::proofs::Gives::spent_waiting, crate::proofs::Gives::idle_used))]
 pub(crate) fn offer(
     desk: &mut Desk,
@@ -21,8 +22,8 @@ pub(crate) fn offer(
 ) -> Hearing
     ensures given { result_of_hearing result
         ≡ offer_of (find (is_eligible asking dead) desk.old.waiting_items) poller is_used_up }
-    ensures item { heard_item result ≡ chosen_item is_used_up asking dead desk.old.waiting_items }
-    ensures kind { IsTrue (is_of_take result) }
+    ensures item { hearing_item result ≡ chosen_item is_used_up asking dead desk.old.waiting_items }
+    ensures kind { IsTrue (is_take_hearing result) }
     ensures desk { desk.new
         ≡ record desk.old {
           waiting_items = items_left is_used_up asking dead desk.old.waiting_items;
@@ -47,10 +48,10 @@ pub(crate) fn offer(
 }
 
 // How an entry names what a node hears that asked for work.
-pub(crate) fn given_of(heard: &Hearing) -> TakeResult
-    ensures { result ≡ result_of_hearing heard.now }
+pub(crate) fn result_of_hearing(hearing: &Hearing) -> TakeResult
+    ensures { result ≡ result_of_hearing hearing.now }
 {
-    match heard {
+    match hearing {
         Hearing::Start { pid, image } => TakeResult::Start {
             pid: *pid,
             image: *image,

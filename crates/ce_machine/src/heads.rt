@@ -1,7 +1,7 @@
 //! What hosts ask of the machine.
 ghost use Rattle.std.specs.Prelude.{◌≡◌, IfOk, IfErr, OnErr};
 ghost use Rattle.ce_model.specs.Answers.{look_result_where};
-ghost use Rattle.ce_machine.specs.Replies.{found_reply};
+ghost use Rattle.ce_machine.specs.Replies.{look_reply};
 ghost use Rattle.ce_machine.specs.Requests.{IsFittingCall};
 ghost use Rattle.ce_machine.specs.Answering.{HasAnswered};
 
@@ -51,9 +51,9 @@ impl<N: Homed> Machine<N> {
         ensures refused { OnErr result (self.new ≡ self.old) }
     {
         make_room(&mut self.history)?;
-        let peeked = self.daemon.peek(alloc)?;
+        let peek_result = self.daemon.peek(alloc)?;
         add_entry(&mut self.history, who, What::Peek);
-        Ok(Reply::Peeked(peeked))
+        Ok(Reply::Peeked(peek_result))
     }
 
     // The host takes all messages that wait in its cube.
@@ -124,7 +124,7 @@ impl<N: Homed> Machine<N> {
         let grant = grant_of(&self.daemon, who.family);
         let host = &self.hosts[who.family as usize];
         let found = look_result_where(is_quiet(&self.desks, &grant), host.is_used_up());
-        let reply = found_reply(found);
+        let reply = look_reply(found);
         add_entry(&mut self.history, who, What::Look { found });
         Ok(reply)
     }
@@ -169,8 +169,8 @@ fn look_result_where(is_quiet: bool, is_used_up: bool) -> LookResult
 }
 
 // What a look is answered.
-fn found_reply<N: Homed>(found: LookResult) -> Reply<N>
-    ensures { result ≡ found_reply found }
+fn look_reply<N: Homed>(found: LookResult) -> Reply<N>
+    ensures { result ≡ look_reply found }
 {
     match found {
         LookResult::Quiet => Reply::Quiet,

@@ -1,9 +1,10 @@
-ghost use Rattle.std.specs.Prelude.{◌≡◌, ℕ, ◌+◌, ◌<◌, ◌≤◌, ◌^◌, ◌==◌, if◌then◌else◌, true, IsTrue, IsFalse, List, [], ◌∷◌, ◌++◌, length, map, IfOk, IfSome, IfNone, option_to_list, vec_capacity};
+ghost use Rattle.std.specs.Prelude.{◌≡◌, ℕ, ◌+◌, ◌<◌, ◌≤◌, ◌^◌, ◌==◌, if◌then◌else◌, true, IsTrue, IsFalse, List, [], ◌∷◌, ◌++◌, length, map, IfSome, IfNone, option_to_list, vec_capacity};
 ghost use Rattle.ce_model.specs.Limits.{process_count, mail_room};
 ghost use Rattle.ce_model.specs.Parcels.{mail, item_parcels};
 ghost use Rattle.rk_mail.specs.Items.{item_of, parcel_of};
 ghost use Rattle.ce_machine.specs.Tables.{blank_host};
 
+use crate::blank::Blank;
 use crate::mail::take_blocks;
 use ce_model::{MAIL_ROOM, NoMemory};
 use rk_mail::{Item, Mailbox, Parcel};
@@ -11,8 +12,9 @@ use std::alloc::Global;
 use std::marker::Model;
 use xm_block::Block;
 
-/// What the machine keeps for a user's host: whether the user's cube is drained, how many dispatches are allowed and how
-/// many of them were made, how many parcels were sent in the cube, and what waits for the host, with room for all that can.
+/// What the machine keeps for a user's host: whether the user's cube is drained, how many
+/// dispatches are allowed and how many of them were made, how many parcels were sent in the cube,
+/// and what waits for the host, with room for all that can.
 #[derive(Drop)]
 pub(crate) struct HostDesk {
     is_drained: bool,
@@ -41,12 +43,11 @@ impl Model for HostDesk {
         × (host.made_dispatches ≤ host.allowed_dispatches) };
 }
 
-impl HostDesk {
-    /// The desk of the host of a user without a cube.
+impl Blank for HostDesk {
+    ghost blank = { blank_host };
+
     #[tactic(auto, using(ce_model::specs::Limits::mail_room_lem))]
-    pub(crate) fn new(alloc: Global) -> Result<HostDesk, NoMemory>
-        ensures { IfOk result (λ host. host ≡ blank_host) }
-    {
+    fn new(alloc: Global) -> Result<HostDesk, NoMemory> {
         let mailbox = Mailbox::new(alloc, MAIL_ROOM)?;
         Ok(HostDesk {
             is_drained: false,
@@ -56,7 +57,9 @@ impl HostDesk {
             mailbox,
         })
     }
+}
 
+impl HostDesk {
     /// How many messages wait.
     pub(crate) fn count(&self) -> u32
         ensures value { result ≡ length self.now.mail }
@@ -124,7 +127,8 @@ impl HostDesk {
         self.mailbox.take_first()
     }
 
-    /// Takes all that waits out, and puts the blocks of the messages behind those that were taken before. The cube is drained.
+    /// Takes all that waits out, and puts the blocks of the messages behind those that were taken
+    /// before. The cube is drained.
     pub(crate) fn drain(&mut self, blocks: &mut Vec<Block>)
         requires { length blocks.old.items + length self.old.mail ≤ vec_capacity blocks.old }
         ensures host { self.new ≡ record self.old { is_drained = true; mail = [] } }

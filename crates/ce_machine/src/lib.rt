@@ -2,6 +2,7 @@
 #![tactic(auto)]
 
 mod acts;
+mod blank;
 mod call;
 mod desk;
 mod desks;
@@ -10,6 +11,7 @@ mod heads;
 mod host_desk;
 mod machine;
 mod mail;
+mod order;
 mod says;
 
 pub use call::{Call, Reply};

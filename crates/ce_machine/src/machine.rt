@@ -5,8 +5,8 @@ ghost use Rattle.ce_daemon.specs.Boxes.{AreBoxes};
 ghost use Rattle.ce_daemon.specs.Holding.{grant_held_by};
 ghost use Rattle.ce_model.specs.Limits.{greatest_history};
 
+use crate::blank::blank_desks;
 use crate::desk::Desk;
-use crate::desks::{blank_desks, blank_hosts};
 use crate::host_desk::HostDesk;
 use ce_daemon::{Daemon, Grant, Homed};
 use ce_lock::Who;
@@ -15,9 +15,9 @@ use rv_image::Image;
 use std::alloc::Global;
 use std::marker::Model;
 
-/// The physical machine that users share: its nodes are granted to them as cubes, and it answers what their hosts and their
-/// nodes ask. It stores the history of all that was asked and answered. Contracts see its dimension, how many users it has, its
-/// images, and the history.
+/// The physical machine that users share: its nodes are granted to them as cubes, and it answers
+/// what their hosts and their nodes ask. It stores the history of all that was asked and answered.
+/// Contracts see its dimension, how many users it has, its images, and the history.
 #[derive(Drop)]
 pub struct Machine<N: Homed> {
     pub(crate) daemon: Daemon<N>,
@@ -50,8 +50,10 @@ impl<N: Homed> Model for Machine<N> {
 }
 
 impl<N: Homed> Machine<N> {
-    /// The machine of dimension `dim`, at most 6, for 1 to 8 users, with these images, at most 64, and the clean box of each
-    /// node, box i of home i. Nothing was asked of it yet. It takes the room of every queue. `NoMemory` may come at any time.
+    /// The machine of dimension `dim`, `GREATEST_DIMENSION` at most, for one to `GREATEST_USERS`
+    /// users, with these images, `GREATEST_IMAGES` at most, and the clean box of each node, box i
+    /// of home i. Nothing was asked of it yet. It takes the room of every queue. `NoMemory` may
+    /// come at any time.
     pub fn new(
         alloc: Global,
         dim: u32,
@@ -68,7 +70,7 @@ impl<N: Homed> Machine<N> {
     {
         let daemon = Daemon::new(alloc, dim, boxes)?;
         let desks = blank_desks(alloc, 1 << dim)?;
-        let hosts = blank_hosts(alloc, users)?;
+        let hosts = blank_desks(alloc, users)?;
         let history = Vec::new(alloc);
         Ok(Machine {
             daemon,

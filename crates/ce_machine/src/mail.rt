@@ -4,7 +4,8 @@ ghost use Rattle.ce_model.specs.Parcels.{item_parcels};
 use rk_mail::{Item, Mailbox};
 use xm_block::Block;
 
-// Takes all items out, and puts the blocks of the messages behind those that were taken before. There is room.
+// Takes all items out, and puts the blocks of the messages behind those that were taken before.
+// There is room.
 pub(crate) fn take_blocks(mailbox: &mut Mailbox, blocks: &mut Vec<Block>)
     requires { length blocks.old.items + length mailbox.old.items ≤ vec_capacity blocks.old }
     ensures none { mailbox.new.items ≡ [] }

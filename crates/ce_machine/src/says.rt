@@ -5,14 +5,15 @@ ghost use Rattle.ce_model.specs.Limits.{greatest_targets, greatest_history};
 ghost use Rattle.ce_machine.specs.Requests.{IsFittingCall};
 ghost use Rattle.ce_machine.specs.Answering.{HasAnswered};
 
-use crate::desks::{kill, mark_busy, place_outward, post_all, relative_number, start};
-use crate::give::{given_of, is_idle, is_work, offer};
+use crate::desks::{mark_busy, post_all, relative_number};
+use crate::give::{is_idle, is_work, offer, result_of_hearing};
 use crate::machine::{add_entry, grant_of, make_room};
+use crate::order::Order;
 use crate::{Call, Machine, Reply};
 use ce_daemon::Homed;
 use ce_lock::Who;
 use ce_model::{BlockId, Bytes, Entry, NoMemory, Place, Targets, What};
-use rk_mail::{Batch, Hearing, Say, kill_hearing, spawn_hearing};
+use rk_mail::{Batch, Hearing, Say};
 use std::alloc::Global;
 
 impl<N: Homed> Machine<N> {
@@ -21,20 +22,20 @@ impl<N: Homed> Machine<N> {
         &mut self,
         alloc: Global,
         who: Who,
-        said: Say,
+        say: Say,
     ) -> Result<Reply<N>, (Say, NoMemory)>
         requires { IsFittingCall N.home N.clean self.old.parts self.old.history who
-            (Call.Say said) }
+            (Call.Say say) }
         ensures answered { IfOk result (λ reply.
-            HasAnswered N.home N.clean self.old self.new who (Call.Say said) reply) }
-        ensures refused { IfErr result (λ back. (self.new ≡ self.old) × (back.0 ≡ said)) }
+            HasAnswered N.home N.clean self.old self.new who (Call.Say say) reply) }
+        ensures refused { IfErr result (λ back. (self.new ≡ self.old) × (back.0 ≡ say)) }
     {
-        match said {
+        match say {
             Say::Take {
                 asking,
                 dead,
                 poller,
-            } => or_said(
+            } => reply_or_say(
                 self.take(who, asking, dead, poller),
                 Say::Take {
                     asking,
@@ -43,15 +44,21 @@ impl<N: Homed> Machine<N> {
                 },
             ),
             Say::Send { pid, batch } => match self.send(alloc, who, pid, batch) {
-                Ok(heard) => Ok(Reply::Heard(heard)),
+                Ok(hearing) => Ok(Reply::Heard(hearing)),
                 Err((batch, error)) => Err((Say::Send { pid, batch }, error)),
             },
-            Say::Spawn { pid, image, to } => or_said(
-                self.spawn(who, pid, image, to),
+            Say::Spawn { pid, image, to } => reply_or_say(
+                self.order(who, pid, Order::Spawn { image }, to),
                 Say::Spawn { pid, image, to },
             ),
-            Say::Kill { pid, to } => or_said(self.kill(who, pid, to), Say::Kill { pid, to }),
-            Say::Note { pid, word } => or_said(self.note(who, pid, word), Say::Note { pid, word }),
+            Say::Kill { pid, to } => reply_or_say(
+                self.order(who, pid, Order::Kill, to),
+                Say::Kill { pid, to },
+            ),
+            Say::Note { pid, word } => reply_or_say(
+                self.note(who, pid, word),
+                Say::Note { pid, word },
+            ),
         }
     }
 
@@ -65,15 +72,15 @@ impl<N: Homed> Machine<N> {
     ) -> Result<Hearing, NoMemory>
         requires { IsFittingCall N.home N.clean self.old.parts self.old.history who
             (Call.Say (Say.Take asking dead poller)) }
-        ensures answered { IfOk result (λ heard. HasAnswered N.home N.clean self.old self.new who
-            (Call.Say (Say.Take asking dead poller)) (Reply.Heard heard)) }
+        ensures answered { IfOk result (λ hearing. HasAnswered N.home N.clean self.old self.new who
+            (Call.Say (Say.Take asking dead poller)) (Reply.Heard hearing)) }
         ensures refused { OnErr result (self.new ≡ self.old) }
     {
         make_room(&mut self.history)?;
         let desk = &mut self.desks[who.actor as usize];
         let host = &mut self.hosts[who.family as usize];
-        let heard = offer(desk, asking, dead, poller, host.is_used_up());
-        let given = given_of(&heard);
+        let hearing = offer(desk, asking, dead, poller, host.is_used_up());
+        let given = result_of_hearing(&hearing);
         host.dispatch(is_work(given));
         desk.mark_take(asking, dead, is_idle(given));
         add_entry(
@@ -86,7 +93,7 @@ impl<N: Homed> Machine<N> {
                 given,
             },
         );
-        Ok(heard)
+        Ok(hearing)
     }
 
     // A message is sent.
@@ -99,8 +106,8 @@ impl<N: Homed> Machine<N> {
     ) -> Result<Hearing, (Batch, NoMemory)>
         requires { IsFittingCall N.home N.clean self.old.parts self.old.history who
             (Call.Say (Say.Send pid batch)) }
-        ensures answered { IfOk result (λ heard. HasAnswered N.home N.clean self.old self.new who
-            (Call.Say (Say.Send pid batch)) (Reply.Heard heard)) }
+        ensures answered { IfOk result (λ hearing. HasAnswered N.home N.clean self.old self.new who
+            (Call.Say (Say.Send pid batch)) (Reply.Heard hearing)) }
         ensures refused { IfErr result (λ back. (self.new ≡ self.old) × (back.0 ≡ batch)) }
     {
         let Ok((mut to, bytes)) = room_for(alloc, &mut self.history, &batch) else {
@@ -129,65 +136,12 @@ impl<N: Homed> Machine<N> {
         Ok(Hearing::Posted(batch))
     }
 
-    // A process is to be started.
-    fn spawn(&mut self, who: Who, pid: u32, image: u32, to: Place) -> Result<Hearing, NoMemory>
-        requires { IsFittingCall N.home N.clean self.old.parts self.old.history who
-            (Call.Say (Say.Spawn pid image to)) }
-        ensures answered { IfOk result (λ heard. HasAnswered N.home N.clean self.old self.new who
-            (Call.Say (Say.Spawn pid image to)) (Reply.Heard heard)) }
-        ensures refused { OnErr result (self.new ≡ self.old) }
-    {
-        make_room(&mut self.history)?;
-        let grant = grant_of(&self.daemon, who.family);
-        let place = place_outward(&grant, to);
-        let fresh = start(&mut self.desks, place, image);
-        mark_busy(&mut self.desks, who.actor);
-        let heard = spawn_hearing(fresh);
-        add_entry(
-            &mut self.history,
-            who,
-            What::Spawn {
-                pid,
-                image,
-                to: place,
-                fresh,
-            },
-        );
-        Ok(heard)
-    }
-
-    // A process is to be stopped.
-    fn kill(&mut self, who: Who, pid: u32, to: Place) -> Result<Hearing, NoMemory>
-        requires { IsFittingCall N.home N.clean self.old.parts self.old.history who
-            (Call.Say (Say.Kill pid to)) }
-        ensures answered { IfOk result (λ heard. HasAnswered N.home N.clean self.old self.new who
-            (Call.Say (Say.Kill pid to)) (Reply.Heard heard)) }
-        ensures refused { OnErr result (self.new ≡ self.old) }
-    {
-        make_room(&mut self.history)?;
-        let grant = grant_of(&self.daemon, who.family);
-        let place = place_outward(&grant, to);
-        let found = kill(&mut self.desks, place);
-        mark_busy(&mut self.desks, who.actor);
-        let heard = kill_hearing(found);
-        add_entry(
-            &mut self.history,
-            who,
-            What::Kill {
-                pid,
-                to: place,
-                found,
-            },
-        );
-        Ok(heard)
-    }
-
     // A word goes into the trace.
     fn note(&mut self, who: Who, pid: u32, word: u32) -> Result<Hearing, NoMemory>
         requires { IsFittingCall N.home N.clean self.old.parts self.old.history who
             (Call.Say (Say.Note pid word)) }
-        ensures answered { IfOk result (λ heard. HasAnswered N.home N.clean self.old self.new who
-            (Call.Say (Say.Note pid word)) (Reply.Heard heard)) }
+        ensures answered { IfOk result (λ hearing. HasAnswered N.home N.clean self.old self.new who
+            (Call.Say (Say.Note pid word)) (Reply.Heard hearing)) }
         ensures refused { OnErr result (self.new ≡ self.old) }
     {
         make_room(&mut self.history)?;
@@ -198,16 +152,16 @@ impl<N: Homed> Machine<N> {
 }
 
 // What was heard, or with no memory what was said.
-fn or_said<N: Homed>(
-    heard: Result<Hearing, NoMemory>,
-    said: Say,
+fn reply_or_say<N: Homed>(
+    hearing: Result<Hearing, NoMemory>,
+    say: Say,
 ) -> Result<Reply<N>, (Say, NoMemory)>
-    ensures { MatchResult heard (λ value. result ≡ Result.Ok (Reply.Heard value))
-        (λ error. result ≡ Result.Err (said, error)) }
+    ensures { MatchResult hearing (λ value. result ≡ Result.Ok (Reply.Heard value))
+        (λ error. result ≡ Result.Err (say, error)) }
 {
-    match heard {
+    match hearing {
         Ok(value) => Ok(Reply::Heard(value)),
-        Err(error) => Err((said, error)),
+        Err(error) => Err((say, error)),
     }
 }
 
@@ -221,9 +175,10 @@ fn room_for(
     ensures same { history.new.items ≡ history.old.items }
     ensures entry { OnOk result (vec_len history.new < vec_capacity history.new) }
     ensures short { OnOk result (length history.old.items < greatest_history) }
-    ensures none { IfOk result (λ taken. taken.0.items ≡ []) }
-    ensures room { IfOk result (λ taken. length batch.now ≤ vec_capacity taken.0) }
-    ensures bytes { IfOk result (λ taken. taken.1 ≡ bytes_of batch.now) }
+    ensures none { IfOk result (λ room_and_bytes. room_and_bytes.0.items ≡ []) }
+    ensures room { IfOk result (λ room_and_bytes.
+        length batch.now ≤ vec_capacity room_and_bytes.0) }
+    ensures bytes { IfOk result (λ room_and_bytes. room_and_bytes.1 ≡ bytes_of batch.now) }
     ensures equal { IfOk result (λ _. HasEqualBytes batch.now) }
     ensures few { length batch.now ≤ greatest_targets }
 {

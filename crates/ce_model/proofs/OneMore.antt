@@ -14,7 +14,7 @@ use Rattle.ce_model.specs.declared.entry.Entry.{Entry}
 use Rattle.ce_model.specs.declared.entry.TakeResult.{TakeResult}
 use Rattle.ce_model.specs.Parcels.{Item, is_named_by}
 use Rattle.ce_model.specs.Trace.{Standing, items_to, taken_result, start_ids_in, kill_ids_in, sent_parcels, allowed_dispatches_after, made_dispatches_after, mark_after, sent_items, taken_results, waiting_items, spawned_ids, killed_ids, mark, allowed_dispatches, made_dispatches, parcels}
-use Rattle.ce_model.specs.Cube.{Cube, CubeState, state, after_entry, store_after, hoststore}
+use Rattle.ce_model.specs.Cube.{Cube, CubeState, state, node_after_entry, store_after, hoststore}
 use Rattle.ce_model.specs.Order.{messages_got, messages_sent, bytes_between, bytes_handed}
 use Rattle.ce_model.proofs.Walked.{walked-more}
 
@@ -73,7 +73,8 @@ option_list-more : {A : Type 0} (f : Entry → Option A) (t : List Entry) (entry
     → filter_map f (t ++ entry ∷ []) ≡ filter_map f t ++ filter_map f (entry ∷ [])
 option_list-more f t entry = filter_map-append f t (entry ∷ [])
 
--- an entry that takes nothing for node r leaves what it has taken, and one that takes an item adds it
+-- an entry that takes nothing for node r leaves what it has taken, and one that takes an item adds
+-- it
 pub taken_results-stays : (r : ℕ) (t : List Entry) (entry : Entry) → taken_for r entry ≡ None → taken_results r (t ++ entry ∷ []) ≡ taken_results r t
 unfolding taken_results
 taken_results-stays r t entry e = option_list-more (taken_for r) t entry ∙ rw e (append-nil (filter_map (taken_for r) t))
@@ -87,7 +88,8 @@ taken_results-more r t entry given e = option_list-more (taken_for r) t entry �
 abbrev pub is_untaken : List TakeResult → Item → Bool
 is_untaken taken item = not (list_any (λ given. is_named_by given item) taken)
 
--- what waits once an entry is made that takes nothing for node r: of what it sends there, all that was not taken before
+-- what waits once an entry is made that takes nothing for node r: of what it sends there, all that
+-- was not taken before
 pub waiting-stays : (o : Standing) (r : ℕ) (t : List Entry) (entry : Entry) → taken_for r entry ≡ None
     → waiting_items o r (t ++ entry ∷ []) ≡ waiting_items o r t ++ filter (is_untaken (taken_results r t)) (items_to r entry)
 unfolding waiting_items
@@ -134,9 +136,9 @@ waiting-taken o r t entry given e s =
 -- ---- nodes, the host's store, and what was got
 
 pub state-more : (cube : Cube) (o : CubeState) (r : ℕ) (t : List Entry) (entry : Entry)
-    → state cube o r (t ++ entry ∷ []) ≡ after_entry cube o r t (state cube o r t) entry
+    → state cube o r (t ++ entry ∷ []) ≡ node_after_entry cube o r t (state cube o r t) entry
 unfolding state
-state-more cube o r t entry = walked-more (after_entry cube o r) (o.node r) t entry
+state-more cube o r t entry = walked-more (node_after_entry cube o r) (o.node r) t entry
 
 pub hoststore-more : (o : CubeState) (t : List Entry) (entry : Entry)
     → hoststore o (t ++ entry ∷ [])

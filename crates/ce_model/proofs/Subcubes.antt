@@ -7,7 +7,7 @@ use Rattle.std.proofs.lemmas.List.Elements.{All-append, All-nil, All-cons, All-h
 use Rattle.std.proofs.lemmas.Nat.Bits.{bit_at_lowest, bit_at-suc, bit_at-zero}
 use Rattle.ce_model.specs.declared.topology.Subcube.{Subcube}
 use Rattle.ce_model.specs.Limits.{greatest_dim}
-use Rattle.ce_model.specs.Subcubes.{extracted_bits, extract, deposited_bits, deposit, node_of, is_inside, ones_of, IsPart, are_all_nodes, IsSubcube, is_base, subcube, with_mask, subcubes, first_free}
+use Rattle.ce_model.specs.Subcubes.{extracted_bits, extract, deposited_bits, deposit, node_of, is_inside, ones_of, IsPart, are_all_nodes, IsSubcube, is_base, subcube, subcubes_with_mask, subcubes, first_free_subcube}
 
 -- ---- one bit of the mask after the other
 
@@ -337,7 +337,7 @@ all_images P images picked from (suc count) each =
 pub all_subcubes : (dim d : ℕ) → All (λ sub. IsSubcube dim d sub) (subcubes dim d)
 unfolding subcubes
 all_subcubes dim d =
-    all_images (λ sub. IsSubcube dim d sub) (with_mask (2 ^ dim)) (λ mask. ones_of greatest_dim mask == d) 0 (2 ^ dim)
+    all_images (λ sub. IsSubcube dim d sub) (subcubes_with_mask (2 ^ dim)) (λ mask. ones_of greatest_dim mask == d) 0 (2 ^ dim)
     (λ mask mask_in ones.
     all_picked (λ sub. IsSubcube dim d sub) (subcube mask) (is_base mask) 0 (2 ^ dim)
     (λ base base_in is_apart. record {
@@ -348,13 +348,13 @@ all_subcubes dim d =
     }))
 
 -- the first free one is a subcube of the machine, and all its nodes are free
-pub first_free-subcube : (is_free : ℕ → Bool) (dim d : ℕ) (sub : Subcube) → first_free is_free dim d ≡ Some sub → IsSubcube dim d sub
-unfolding first_free
+pub first_free-subcube : (is_free : ℕ → Bool) (dim d : ℕ) (sub : Subcube) → first_free_subcube is_free dim d ≡ Some sub → IsSubcube dim d sub
+unfolding first_free_subcube
 first_free-subcube is_free dim d sub found =
     find-among (λ s. IsSubcube dim d s) (are_all_nodes is_free d) (subcubes dim d) sub (all_subcubes dim d) found
 
-pub first_free-all_free : (is_free : ℕ → Bool) (dim d : ℕ) (sub : Subcube) → first_free is_free dim d ≡ Some sub → are_all_nodes is_free d sub ≡ true
-unfolding first_free
+pub first_free-all_free : (is_free : ℕ → Bool) (dim d : ℕ) (sub : Subcube) → first_free_subcube is_free dim d ≡ Some sub → are_all_nodes is_free d sub ≡ true
+unfolding first_free_subcube
 first_free-all_free is_free dim d sub found = find-passes (are_all_nodes is_free d) (subcubes dim d) sub found
 
 -- ---- tests that agree on the nodes of the machine
@@ -370,8 +370,8 @@ find-same p q [] same = refl
 find-same p q (x ∷ xs) same =
     rw (All-head (λ y. p y ≡ q y) x xs same, find-same p q xs (All-tail (λ y. p y ≡ q y) x xs same)) refl
 
-pub first_free-same : (p q : ℕ → Bool) (dim d : ℕ) → ((node : ℕ) → node < 2 ^ dim → p node ≡ q node) → first_free p dim d ≡ first_free q dim d
-unfolding first_free
+pub first_free-same : (p q : ℕ → Bool) (dim d : ℕ) → ((node : ℕ) → node < 2 ^ dim → p node ≡ q node) → first_free_subcube p dim d ≡ first_free_subcube q dim d
+unfolding first_free_subcube
 first_free-same p q dim d same =
     find-same (are_all_nodes p d) (are_all_nodes q d) (subcubes dim d)
     (All-weaker (λ sub. IsSubcube dim d sub) (λ sub. are_all_nodes p d sub ≡ are_all_nodes q d sub)

@@ -1,4 +1,5 @@
--- Lists that are walked from the front: one member more at the end, and properties that each member keeps.
+-- Lists that are walked from the front: one member more at the end, and properties that each member
+-- keeps.
 use Rattle.std.proofs.Common.{◌≡◌, List, [], ◌∷◌, ◌++◌, refl, ap, sym, ◌∙◌, subst, append_assoc, append-nil}
 use Rattle.ce_model.specs.Lists.{fold_behind, fold_with_front, EachAfter}
 

@@ -1,9 +1,10 @@
 -- Message blocks: their names, in the order in which a store gives them out, and their bytes.
-use Rattle.std.specs.Prelude.{ℕ, Bool, ◌&&◌, ◌||◌, ◌==◌, nat_lt, if◌then◌else◌, List, [], ◌∷◌, fold, map}
+use Rattle.std.specs.Prelude.{ℕ, Bool, ◌&&◌, ◌||◌, ◌==◌, nat_lt, List, fold, map}
 use Rattle.std.specs.List.{range_with_len}
 use Rattle.ce_model.specs.declared.topology.BlockId.{BlockId}
 use Rattle.ce_model.specs.Limits.{home_blocks}
 use Rattle.ce_model.specs.Lists.{without_first}
+use Rattle.ce_model.specs.Rising.{with_inserted}
 
 -- a message block: its name, and the bytes that it holds now
 pub record Block : Type 0 where
@@ -16,8 +17,7 @@ is_lower a b = nat_lt a.home b.home || (a.home == b.home && nat_lt a.index b.ind
 
 -- a list of names that rises, with one name more in its place
 abbrev pub with_id : BlockId → List BlockId → List BlockId
-with_id id [] = id ∷ []
-with_id id (other ∷ ids) = if is_lower id other then id ∷ other ∷ ids else other ∷ with_id id ids
+with_id = with_inserted is_lower
 
 -- several names more
 abbrev pub with_ids : List BlockId → List BlockId → List BlockId
@@ -32,4 +32,5 @@ without_id id ids = without_first (is_same_id id) ids
 
 -- the names of the blocks of one home, in order
 abbrev pub blocks_of_home : ℕ → List BlockId
-blocks_of_home home = map (λ index. record { home = home; index = index }) (range_with_len 0 home_blocks)
+blocks_of_home home =
+    map (λ index. record { home = home; index = index }) (range_with_len 0 home_blocks)

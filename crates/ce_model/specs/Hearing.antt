@@ -3,13 +3,14 @@ use Rattle.std.specs.Prelude.{ℕ, if◌then◌else◌, List, [], length, Option
 use Rattle.rv_model.specs.declared.limits.TheConstants.{PRIVATE_START}
 use Rattle.rv_model.specs.declared.stop.Stop.TheVariants.{Killed, WindowsSpent}
 use Rattle.rv_model.specs.Image.{ImageParts}
+use Rattle.ce_model.specs.declared.calls.TheConstants.{NO_ADDRESS}
 use Rattle.ce_model.specs.declared.process.Status.TheVariants.{Running}
 use Rattle.ce_model.specs.Limits.{turn_instructions}
 use Rattle.ce_model.specs.Blocks.{with_id}
 use Rattle.ce_model.specs.Parcels.{Parcel}
 use Rattle.ce_model.specs.Space.{window_start, has_unused_window, mapped_space}
 use Rattle.ce_model.specs.Process.{Process, started_process, with_answer, is_receiving, is_stopped}
-use Rattle.ce_model.specs.Node.{Turn, Node, process_at, with_process, without_poller, with_stopped}
+use Rattle.ce_model.specs.Node.{Turn, Node, process_at, with_process, without_poller, with_stopped_process}
 
 -- what a node hears in answer to its call
 pub data Hearing : Type 0 where
@@ -28,7 +29,8 @@ pub data Hearing : Type 0 where
 
 -- the image of a number; the machine gives no other number than those of its images
 abbrev pub image_at : List ImageParts → ℕ → ImageParts
-image_at images number = slice_index_or images number (record { entry = PRIVATE_START; loaded = []; zero = 0 })
+image_at images number =
+    slice_index_or images number (record { entry = PRIVATE_START; loaded = []; zero = 0 })
 
 -- a turn of this process begins
 abbrev pub with_turn : Node → ℕ → Process → Node
@@ -43,29 +45,39 @@ abbrev pub with_answered_turn : Node → ℕ → Process → ℕ → Node
 with_answered_turn node pid p value = with_turn node pid (with_answer value p)
 
 -- the parcel's block goes to the store
-abbrev pub with_stored : Node → Parcel → Node
-with_stored node parcel = record node { store = with_id parcel.block.id node.store }
+abbrev pub with_stored_parcel : Node → Parcel → Node
+with_stored_parcel node parcel = record node { store = with_id parcel.block.id node.store }
 
--- a process that waits for a message gets the parcel: its block is mapped at the next window, and its turn begins; where no
--- window is left it stops, and this block and all its others are in the store
-abbrev pub with_received : Node → Parcel → Process → Node
-with_received node parcel p =
+-- a process that waits for a message gets the parcel: its block is mapped at the next window, and
+-- its turn begins; where no window is left it stops, and this block and all its others are in the
+-- store
+abbrev pub with_received_parcel : Node → Parcel → Process → Node
+with_received_parcel node parcel p =
     if has_unused_window p.space
-    then with_answered_turn node parcel.to.pid (record p { space = mapped_space parcel.block p.space }) (window_start (length p.space.windows))
-    else with_stopped (with_stored node parcel) parcel.to.pid p WindowsSpent
+    then with_answered_turn node parcel.to.pid
+    (record p { space = mapped_space parcel.block p.space })
+    (window_start (length p.space.windows))
+    else with_stopped_process (with_stored_parcel node parcel) parcel.to.pid p WindowsSpent
 
 -- the call of the turn's process is answered, where there is a turn
 abbrev pub with_answered_call : ℕ → Node → Option Turn → Node
 with_answered_call value node None = node
-with_answered_call value node (Some turn) = with_process node turn.pid (with_answer value (process_at node turn.pid))
+with_answered_call value node (Some turn) =
+    with_process node turn.pid (with_answer value (process_at node turn.pid))
 
--- what a node that made a call becomes by the answer; mail for a process that doesn't wait for a message goes to the store
+-- what a node that made a call becomes by the answer; mail for a process that doesn't wait for a
+-- message goes to the store
 unfoldable pub node_after_hearing : List ImageParts → Node → Hearing → Node
-node_after_hearing images node (start_of pid image) = with_turn node pid (started_process (image_at images image))
+node_after_hearing images node (start_of pid image) =
+    with_turn node pid (started_process (image_at images image))
 node_after_hearing images node (mail_of parcel) =
-    if is_receiving (process_at node parcel.to.pid).status then with_received node parcel (process_at node parcel.to.pid) else with_stored node parcel
+    if is_receiving (process_at node parcel.to.pid).status
+    then with_received_parcel node parcel (process_at node parcel.to.pid)
+    else with_stored_parcel node parcel
 node_after_hearing images node (kill_of pid) =
-    if is_stopped (process_at node pid).status then node else with_stopped node pid (process_at node pid) Killed
-node_after_hearing images node (poll_of pid) = with_answered_turn node pid (process_at node pid) 0
+    if is_stopped (process_at node pid).status then node
+    else with_stopped_process node pid (process_at node pid) Killed
+node_after_hearing images node (poll_of pid) =
+    with_answered_turn node pid (process_at node pid) NO_ADDRESS
 node_after_hearing images node (answer_of value) = with_answered_call value node node.turn
 node_after_hearing images node nothing = node

@@ -13,6 +13,7 @@ pub mod Owners
 pub mod Parcels
 pub mod Process
 pub mod Renaming
+pub mod Rising
 pub mod Saying
 pub mod Sound
 pub mod Space

@@ -1,4 +1,5 @@
--- The machine's limits: a name for each, behind which no proof computes unless it asks, and a lemma of its value.
+-- The machine's limits: a name for each, behind which no proof computes unless it asks, and a lemma
+-- of its value.
 use Rattle.std.specs.Prelude.{◌≡◌, ℕ, ◌^◌, refl}
 use Rattle.ce_model.specs.declared.limits.TheConstants.{GREATEST_DIMENSION, GREATEST_NODES, PROCESS_COUNT, HOME_BLOCKS, GREATEST_BLOCKS, BLOCK_ROOM, WINDOW_COUNT, WINDOW_BASE, WINDOW_SIZE, GREATEST_TARGETS, TURN_INSTRUCTIONS, TURN_CALLS, GREATEST_COUNT, GREATEST_USERS, GREATEST_IMAGES, MAIL_ROOM, NODE_ROOM, GREATEST_HISTORY, HOST_HOME}
 
@@ -26,7 +27,8 @@ pub home_blocks_lem : home_blocks ≡ 32
 unfolding home_blocks
 home_blocks_lem = refl
 
--- how many message blocks the greatest cube has: those that its nodes are home to, and those of its host
+-- how many message blocks the greatest cube has: those that its nodes are home to, and those of its
+-- host
 unfoldable pub greatest_blocks : ℕ
 greatest_blocks = GREATEST_BLOCKS
 

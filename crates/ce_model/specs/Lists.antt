@@ -10,7 +10,8 @@ without_first test (x ∷ xs) = if test x then xs else x ∷ without_first test 
 -- what comes of a state when a list is walked from its front, each member seen with those before it
 abbrev pub fold_behind : {S X : Type 0} → (List X → S → X → S) → List X → S → List X → S
 fold_behind next before state [] = state
-fold_behind next before state (x ∷ behind) = fold_behind next (before ++ x ∷ []) (next before state x) behind
+fold_behind next before state (x ∷ behind) =
+    fold_behind next (before ++ x ∷ []) (next before state x) behind
 
 abbrev pub fold_with_front : {S X : Type 0} → (List X → S → X → S) → S → List X → S
 fold_with_front next state xs = fold_behind next [] state xs

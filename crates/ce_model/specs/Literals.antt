@@ -1,4 +1,5 @@
--- Literals, written short: a machine of one image, entries, subcubes, places, blocks, and the bytes of messages.
+-- Literals, written short: a machine of one image, entries, subcubes, places, blocks, and the bytes
+-- of messages.
 use Rattle.std.specs.Prelude.{ℕ, List, [], ◌∷◌}
 use Rattle.rv_model.specs.Image.{ImageParts}
 use Rattle.ce_model.specs.declared.topology.TheConstants.{HOST}
@@ -17,8 +18,8 @@ machine dim users image = record { dim = dim; users = users; images = image ∷ 
 abbrev pub entry_of : ℕ → ℕ → What → Entry
 entry_of user actor what = record { user = user; actor = actor; what = what }
 
-abbrev pub of_host : ℕ → What → Entry
-of_host user what = entry_of user HOST what
+abbrev pub host_entry : ℕ → What → Entry
+host_entry user what = entry_of user HOST what
 
 abbrev pub place : ℕ → ℕ → Place
 place node pid = record { node = node; pid = pid }

@@ -11,14 +11,16 @@ use Rattle.ce_model.specs.Blocks.{with_ids, blocks_of_home}
 use Rattle.ce_model.specs.Space.{mapped_ids}
 use Rattle.ce_model.specs.Process.{Process, unborn_process, ended_process, is_receiving, is_stopped}
 
--- the turn of a process: its id, how many instructions it may still run, and how many counted calls it has made
+-- the turn of a process: its id, how many instructions it may still run, and how many counted calls
+-- it has made
 pub record Turn : Type 0 where
   pub pid : ℕ
   pub instructions_left : ℕ
   pub calls : ℕ
 
--- a node: its number in its cube, the cube's dimension, the home of its blocks, how many images there are, its processes by id,
--- the blocks in its store, the ids in `xrecv`, longest first, and the turn that runs, if any
+-- a node: its number in its cube, the cube's dimension, the home of its blocks, how many images
+-- there are, its processes by id, the blocks in its store, the ids in `xrecv`, longest first, and
+-- the turn that runs, if any
 pub record Node : Type 0 where
   pub number : ℕ
   pub dim : ℕ
@@ -66,18 +68,19 @@ with_process node pid p = record node { processes = slice_set node.processes pid
 
 -- the list of those in `xrecv`, without one
 abbrev pub without_poller : ℕ → List ℕ → List ℕ
-without_poller pid polling = without_first (λ other. other == pid) polling
+without_poller pid polling_ids = without_first (λ other. other == pid) polling_ids
 
 -- a process stops: its blocks go to the store, it polls no longer, and the turn is over
-abbrev pub with_stopped : Node → ℕ → Process → Stop → Node
-with_stopped node pid p cause = record node {
+abbrev pub with_stopped_process : Node → ℕ → Process → Stop → Node
+with_stopped_process node pid p cause = record node {
   processes = slice_set node.processes pid (ended_process cause p);
   store = with_ids (mapped_ids p.space) node.store;
   polling_ids = without_poller pid node.polling_ids;
   turn = None;
 }
 
--- the names of all blocks that a node holds: those in its store, and those in the windows of its processes
+-- the names of all blocks that a node holds: those in its store, and those in the windows of its
+-- processes
 abbrev pub blocks_of : Node → List BlockId
 blocks_of node = node.store ++ flat_map (λ p. mapped_ids p.space) node.processes
 
@@ -85,7 +88,8 @@ blocks_of node = node.store ++ flat_map (λ p. mapped_ids p.space) node.processe
 
 -- a call that a node or a host makes
 pub data Call : Type 0 where
-  -- a node asks for work: the sets of ids that wait for a message and that have stopped, and the id longest in `xrecv`
+  -- a node asks for work: the sets of ids that wait for a message and that have stopped, and the id
+  -- longest in `xrecv`
   take_call : ℕ → ℕ → Option ℕ → Call
   -- a process sends a message: its id, the places with the block for each, and the bytes
   send_call : ℕ → List (Place × BlockId) → List ℕ → Call
@@ -108,5 +112,6 @@ process_set test [] = 0
 process_set test (p ∷ ps) = (if test p.status then 1 else 0) + 2 * process_set test ps
 
 -- the call of a node without a turn
-abbrev pub take_of : Node → Call
-take_of node = take_call (process_set is_receiving node.processes) (process_set is_stopped node.processes) (slice_get node.polling_ids 0)
+abbrev pub take_call_of : Node → Call
+take_call_of node = take_call (process_set is_receiving node.processes)
+    (process_set is_stopped node.processes) (slice_get node.polling_ids 0)

@@ -16,32 +16,41 @@ is_between from to parcel = is_same_place parcel.from from && is_same_place parc
 
 -- the bytes of the parcels among these items that go from the one place to the other
 abbrev pub bytes_between : Place → Place → List Item → List (List ℕ)
-bytes_between from to items = map (λ parcel. parcel.block.bytes) (filter (is_between from to) (item_parcels items))
+bytes_between from to items =
+    map (λ parcel. parcel.block.bytes) (filter (is_between from to) (item_parcels items))
 
 -- what was sent from the one place to the other, in order; what waited at first counts as sent
 unfoldable pub messages_sent : Standing → Place → Place → List Entry → List (List ℕ)
 messages_sent o from to t = bytes_between from to (sent_items o to.node t)
 
--- the number of the parcel that an entry of its actor hands to a process there: to one that asked for a message, or to the host
+-- the number of the parcel that an entry of its actor hands to a process there: to one that asked
+-- for a message, or to the host
 abbrev pub number_handed : ℕ → What → Option ℕ
-number_handed pid (Take asking dead poller (Mail receiver number)) = if receiver == pid && is_member pid asking then Some number else None
+number_handed pid (Take asking dead poller (Mail receiver number)) =
+    if receiver == pid && is_member pid asking then Some number else None
 number_handed pid (HostTake number) = if pid == 0 then number else None
 number_handed pid other = None
 
 -- the parcel that an entry hands to a process, of those that wait
 abbrev pub parcel_handed : Place → List Item → Entry → Option Parcel
 parcel_handed to items entry =
-    if entry.actor == to.node then option_and_then (λ number. parcel_numbered number items) (number_handed to.pid entry.what) else None
+    if entry.actor == to.node
+    then option_and_then (λ number. parcel_numbered number items)
+    (number_handed to.pid entry.what) else None
 
 -- the bytes that an entry hands from the one place to the other, with these items waiting
 abbrev pub bytes_handed : Place → Place → List Item → Entry → List (List ℕ)
 bytes_handed from to items entry =
-    map (λ parcel. parcel.block.bytes) (filter (is_between from to) (option_to_list (parcel_handed to items entry)))
+    map (λ parcel. parcel.block.bytes)
+    (filter (is_between from to) (option_to_list (parcel_handed to items entry)))
 
 -- what the one got from the other, in the order of the trace
 unfoldable pub messages_got : Standing → Place → Place → List Entry → List (List ℕ)
-messages_got o from to t = fold_with_front (λ before messages entry. messages ++ bytes_handed from to (waiting_items o to.node before) entry) [] t
+messages_got o from to t = fold_with_front
+    (λ before messages entry. messages
+    ++ bytes_handed from to (waiting_items o to.node before) entry) [] t
 
 -- after every front of the trace, what any one got from another is a front of what that one sent it
 abbrev pub IsInOrder : Standing → List Entry → Type 0
-IsInOrder o t = (front : List Entry) → IsFront front t → (from to : Place) → IsFront (messages_got o from to front) (messages_sent o from to front)
+IsInOrder o t = (front : List Entry) → IsFront front t → (from to : Place)
+    → IsFront (messages_got o from to front) (messages_sent o from to front)

@@ -6,7 +6,8 @@ use Rattle.ce_model.specs.declared.entry.TakeResult.{TakeResult}
 use Rattle.ce_model.specs.declared.entry.TakeResult.TheVariants.{Start, Mail, Kill}
 use Rattle.ce_model.specs.Blocks.{Block}
 
--- a parcel: who sent it to whom, its number among all parcels of its cube, and the block that carries its bytes
+-- a parcel: who sent it to whom, its number among all parcels of its cube, and the block that
+-- carries its bytes
 pub record Parcel : Type 0 where
   pub from : Place
   pub to : Place
@@ -22,15 +23,16 @@ pub data Item : Type 0 where
 abbrev pub is_same_place : Place → Place → Bool
 is_same_place a b = a.node == b.node && a.pid == b.pid
 
--- process `pid` is in a set of ids, which has one bit for each
+-- a number is in a set of numbers, which is a word that has one bit for each
 abbrev pub is_member : ℕ → ℕ → Bool
-is_member pid ids = ids / 2 ^ pid % 2 == 1
+is_member n word = word / 2 ^ n % 2 == 1
 
--- a node can be given the item, by the sets of its processes that wait for a message and that have stopped: a parcel waits
--- until its receiver asks for it or has stopped
+-- a node can be given the item, by the sets of its processes that wait for a message and that have
+-- stopped: a parcel waits until its receiver asks for it or has stopped
 abbrev pub is_eligible : ℕ → ℕ → Item → Bool
 is_eligible asking dead (start pid image) = true
-is_eligible asking dead (mail parcel) = is_member parcel.to.pid asking || is_member parcel.to.pid dead
+is_eligible asking dead (mail parcel) =
+    is_member parcel.to.pid asking || is_member parcel.to.pid dead
 is_eligible asking dead (kill pid) = true
 
 -- how an entry names the item that a node is given
@@ -71,5 +73,10 @@ is_item other = false
 abbrev pub message_parcels : Place → ℕ → List ℕ → List (Place × BlockId) → List Parcel
 message_parcels from number bytes [] = []
 message_parcels from number bytes (target ∷ targets) =
-    record { from = from; to = target.0; number = number; block = record { id = target.1; bytes = bytes } }
+    record {
+      from = from;
+      to = target.0;
+      number = number;
+      block = record { id = target.1; bytes = bytes };
+    }
     ∷ message_parcels from (number + 1) bytes targets

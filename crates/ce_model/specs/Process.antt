@@ -4,7 +4,7 @@ use Rattle.rv_model.specs.declared.stop.Stop.{Stop}
 use Rattle.rv_model.specs.declared.stop.Stop.TheVariants.{TurnSpent}
 use Rattle.rv_model.specs.Exec.{Outcome, next_state, call_state, stop_state, exec}
 use Rattle.rv_model.specs.Image.{ImageParts}
-use Rattle.rv_model.specs.Private.{with_loaded}
+use Rattle.rv_model.specs.Private.{with_loaded_bytes}
 use Rattle.rv_model.specs.declared.limits.TheConstants.{A0, PRIVATE_END, REGISTER_COUNT, SP}
 use Rattle.ce_model.specs.declared.calls.TheConstants.{NUMBER_ARGUMENT}
 use Rattle.ce_model.specs.declared.process.Status.{Status}
@@ -14,7 +14,7 @@ use Rattle.ce_model.specs.Space.{Space, process_access, emptied_space}
 -- what a process does, its registers, its pc, and its memory
 pub record Process : Type 0 where
   pub status : Status
-  pub regs : List ℕ
+  pub registers : List ℕ
   pub pc : ℕ
   pub space : Space
 
@@ -32,16 +32,21 @@ is_stopped other = false
 
 -- a process that wasn't started yet
 abbrev pub unborn_process : Process
-unborn_process = record { status = Unborn; regs = replicate REGISTER_COUNT 0; pc = 0; space = record { private = with_loaded []; windows = [] } }
+unborn_process = record {
+  status = Unborn;
+  registers = replicate REGISTER_COUNT 0;
+  pc = 0;
+  space = record { private = with_loaded_bytes []; windows = [] };
+}
 
--- a process as it starts: its image's bytes and zeros behind them, the pc at the image's entry, `sp` at the end of private
--- memory, all other registers 0, and no window used
+-- a process as it starts: its image's bytes and zeros behind them, the pc at the image's entry,
+-- `sp` at the end of private memory, all other registers 0, and no window used
 abbrev pub started_process : ImageParts → Process
 started_process image = record {
   status = Running;
-  regs = slice_set (replicate REGISTER_COUNT 0) SP PRIVATE_END;
+  registers = slice_set (replicate REGISTER_COUNT 0) SP PRIVATE_END;
   pc = image.entry;
-  space = record { private = with_loaded image.loaded; windows = [] };
+  space = record { private = with_loaded_bytes image.loaded; windows = [] };
 }
 
 -- a process that has stopped for this cause: its windows hold nothing any longer
@@ -52,7 +57,7 @@ ended_process cause p = record p { status = Stopped cause; space = emptied_space
 
 -- an argument of a call: the first is in a0
 abbrev pub argument : Process → ℕ → ℕ
-argument p k = slice_index p.regs (A0 + k)
+argument p k = slice_index p.registers (A0 + k)
 
 -- the number of a call is in a7
 abbrev pub call_number : Process → ℕ
@@ -60,26 +65,32 @@ call_number p = argument p NUMBER_ARGUMENT
 
 -- the answer to a call is put into a0
 abbrev pub with_answer : ℕ → Process → Process
-with_answer value p = record p { regs = slice_set p.regs A0 value }
+with_answer value p = record p { registers = slice_set p.registers A0 value }
 
 -- ---- the run to the next call
 
 -- a process once an instruction has left these registers, this pc and this memory
 abbrev pub moved_process : Process → List ℕ → ℕ → Space → Process
-moved_process p regs pc space = record { status = p.status; regs = regs; pc = pc; space = space }
+moved_process p registers pc space =
+    record { status = p.status; registers = registers; pc = pc; space = space }
 
--- what a run comes to: a call of the kernel, with the instructions that the turn has left, or why the process stops there
+-- what a run comes to: a call of the kernel, with the instructions that the turn has left, or why
+-- the process stops there
 pub data TurnEnd : Type 0 where
-  at_call : ℕ → Process → TurnEnd
-  at_stop : ℕ → Process → Stop → TurnEnd
+  call_end : ℕ → Process → TurnEnd
+  stop_end : ℕ → Process → Stop → TurnEnd
 
--- where an instruction leads, behind which `left` more may be run
+-- where an instruction leads, behind which `instructions_left` more may be run
 abbrev pub end_after : (Process → TurnEnd) → ℕ → Process → Outcome Space → TurnEnd
-end_after onward left p (next_state regs pc space) = onward (moved_process p regs pc space)
-end_after onward left p (call_state regs pc space) = at_call left (moved_process p regs pc space)
-end_after onward left p (stop_state cause) = at_stop left p cause
+end_after onward instructions_left p (next_state registers pc space) =
+    onward (moved_process p registers pc space)
+end_after onward instructions_left p (call_state registers pc space) =
+    call_end instructions_left (moved_process p registers pc space)
+end_after onward instructions_left p (stop_state cause) = stop_end instructions_left p cause
 
--- what a process comes to that may run so many instructions more: its next kernel call, its stop, or the end of its turn
+-- what a process comes to that may run so many instructions more: its next kernel call, its stop,
+-- or the end of its turn
 unfoldable pub turn_end : ℕ → Process → TurnEnd
-turn_end zero p = at_stop 0 p TurnSpent
-turn_end (suc left) p = end_after (turn_end left) left p (exec process_access p.regs p.pc p.space)
+turn_end zero p = stop_end 0 p TurnSpent
+turn_end (suc instructions_left) p = end_after (turn_end instructions_left) instructions_left p
+    (exec process_access p.registers p.pc p.space)

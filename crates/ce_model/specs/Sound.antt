@@ -1,5 +1,5 @@
--- Sound states of a cube: what every law of a cube alone begins with. A fresh cube is in one, and each entry that its actor makes
--- next leaves one.
+-- Sound states of a cube: what every law of a cube alone begins with. A fresh cube is in one, and
+-- each entry that its actor makes next leaves one.
 use Rattle.std.specs.Prelude.{◌≡◌, ℕ, ◌^◌, ◌<◌, ◌≤◌, Bool, true, false, not, ◌||◌, ◌==◌, if◌then◌else◌, IsTrue, List, [], ◌∷◌, length, map, count_by, Option, Some, None, IfSome}
 use Rattle.std.specs.List.{list_any, AllByRecursion}
 use Rattle.rv_model.specs.declared.limits.TheConstants.{REGISTER_COUNT}
@@ -48,7 +48,8 @@ has_start pid items = list_any (is_start_of pid) items
 -- behind a kill of this process no start of it waits
 abbrev pub IsStartFirst : ℕ → List Item → Type 0
 IsStartFirst pid [] = Unit {0}
-IsStartFirst pid (item ∷ items) = (IsTrue (is_kill_of pid item) → has_start pid items ≡ false) × IsStartFirst pid items
+IsStartFirst pid (item ∷ items) =
+    (IsTrue (is_kill_of pid item) → has_start pid items ≡ false) × IsStartFirst pid items
 
 -- the numbers of the parcels that wait, in order
 abbrev pub numbers_of : List Item → List ℕ
@@ -59,10 +60,11 @@ pub record AreNumbered (count : ℕ) (items : List Item) : Type 0 where
   pub rising : ArePairwise (λ a b. a < b) (numbers_of items)
   pub below : AllByRecursion (λ number. number < count) (numbers_of items)
 
--- an item that waits at node r is for one of its processes: a start is of an image of the cube and of an id that was spawned, and a
--- kill is of one whose kill was accepted
+-- an item that waits at node r is for one of its processes: a start is of an image of the cube and
+-- of an id that was spawned, and a kill is of one whose kill was accepted
 abbrev pub IsItemOf : Cube → ℕ → NodeRecord → Item → Type 0
-IsItemOf cube r node_record (start pid image) = IsTrue (is_among pid node_record.spawned_ids) × (image < length cube.images)
+IsItemOf cube r node_record (start pid image) =
+    IsTrue (is_among pid node_record.spawned_ids) × (image < length cube.images)
 IsItemOf cube r node_record (mail parcel) = (parcel.to.node ≡ r) × (parcel.to.pid < process_count)
 IsItemOf cube r node_record (kill pid) = IsTrue (is_among pid node_record.killed_ids)
 
@@ -70,8 +72,8 @@ IsItemOf cube r node_record (kill pid) = IsTrue (is_among pid node_record.killed
 abbrev pub AreDistinct : List ℕ → Type 0
 AreDistinct pids = ArePairwise (λ a b. (a == b) ≡ false) pids
 
--- what is kept for a node: the items that wait there are its own, one start and one kill of an id at most, the start first; an id is
--- spawned once, and only a spawned one is killed, once
+-- what is kept for a node: the items that wait there are its own, one start and one kill of an id
+-- at most, the start first; an id is spawned once, and only a spawned one is killed, once
 pub record IsSoundRecord (cube : Cube) (count r : ℕ) (node_record : NodeRecord) : Type 0 where
   pub numbered : AreNumbered count node_record.waiting_items
   pub own : AllByRecursion (IsItemOf cube r node_record) node_record.waiting_items
@@ -80,7 +82,8 @@ pub record IsSoundRecord (cube : Cube) (count r : ℕ) (node_record : NodeRecord
   pub start_first : (pid : ℕ) → IsStartFirst pid node_record.waiting_items
   pub ids : AllByRecursion (λ pid. pid < process_count) node_record.spawned_ids
   pub spawned_once : AreDistinct node_record.spawned_ids
-  pub killed : AllByRecursion (λ pid. IsTrue (is_among pid node_record.spawned_ids)) node_record.killed_ids
+  pub killed : AllByRecursion
+      (λ pid. IsTrue (is_among pid node_record.spawned_ids)) node_record.killed_ids
   pub killed_once : AreDistinct node_record.killed_ids
 
 -- the items that wait for the host are parcels for it
@@ -99,12 +102,14 @@ abbrev pub is_turn_of : ℕ → Option Turn → Bool
 is_turn_of pid None = false
 is_turn_of pid (Some turn) = turn.pid == pid
 
--- a process is unborn exactly where its id wasn't spawned or its start waits, and then it has used no window; one that has stopped
--- holds no block; and it runs exactly where the turn is its own
-pub record IsSoundProcess (node_record : NodeRecord) (turn : Option Turn) (pid : ℕ) (p : Process) : Type 0 where
-  pub registers : length p.regs ≡ REGISTER_COUNT
+-- a process is unborn exactly where its id wasn't spawned or its start waits, and then it has used
+-- no window; one that has stopped holds no block; and it runs exactly where the turn is its own
+pub record IsSoundProcess (node_record : NodeRecord) (turn : Option Turn) (pid : ℕ)
+    (p : Process) : Type 0 where
+  pub registers : length p.registers ≡ REGISTER_COUNT
   pub windows : length p.space.windows ≤ window_count
-  pub unborn : is_unborn p.status ≡ (not (is_among pid node_record.spawned_ids) || has_start pid node_record.waiting_items)
+  pub unborn : is_unborn p.status
+      ≡ (not (is_among pid node_record.spawned_ids) || has_start pid node_record.waiting_items)
   pub unborn_used : IsTrue (is_unborn p.status) → p.space.windows ≡ []
   pub stopped_holds : IsTrue (is_stopped p.status) → mapped_ids p.space ≡ []
   pub running : is_running p.status ≡ is_turn_of pid turn
@@ -126,8 +131,10 @@ pub record IsSoundNode (cube : Cube) (node_record : NodeRecord) (r : ℕ) (node 
   pub home : node.home ≡ r
   pub images : node.images ≡ length cube.images
   pub process_ids : length node.processes ≡ process_count
-  pub processes : (pid : ℕ) → pid < process_count → IsSoundProcess node_record node.turn pid (process_at node pid)
-  pub polling_ids : (pid : ℕ) → count_by (λ other. other == pid) node.polling_ids ≡ (if is_polling (process_at node pid).status then 1 else 0)
+  pub processes : (pid : ℕ) → pid < process_count
+      → IsSoundProcess node_record node.turn pid (process_at node pid)
+  pub polling_ids : (pid : ℕ) → count_by (λ other. other == pid) node.polling_ids
+      ≡ (if is_polling (process_at node pid).status then 1 else 0)
   pub turn : IfSome node.turn IsSoundTurn
   pub store : AreInOrder node.store
 
@@ -136,7 +143,8 @@ pub record IsSoundNode (cube : Cube) (node_record : NodeRecord) (r : ℕ) (node 
 -- a state that a cube can be in: each of its blocks has one owner, and there are no others
 pub record IsSound (cube : Cube) (s : CubeState) : Type 0 where
   pub nodes : (r : ℕ) → r < 2 ^ cube.dim → IsSoundNode cube (s.standing.node_record r) r (s.node r)
-  pub records : (r : ℕ) → r < 2 ^ cube.dim → IsSoundRecord cube s.standing.parcel_count r (s.standing.node_record r)
+  pub records : (r : ℕ) → r < 2 ^ cube.dim
+      → IsSoundRecord cube s.standing.parcel_count r (s.standing.node_record r)
   pub host : IsSoundHost s.standing.parcel_count (s.standing.node_record HOST).waiting_items
   pub hoststore : AreInOrder s.hoststore
   pub owners : HasOneOwner cube.dim s

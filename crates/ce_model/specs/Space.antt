@@ -1,4 +1,5 @@
--- The memory of a process: its private bytes, and the message blocks that are mapped at its windows.
+-- The memory of a process: its private bytes, and the message blocks that are mapped at its
+-- windows.
 use Rattle.std.specs.Prelude.{ℕ, zero, suc, ◌+◌, ◌-◌, ◌*◌, ◌/◌, ◌%◌, Bool, not, ◌&&◌, ◌==◌, nat_le, nat_lt, if◌then◌else◌, List, [], ◌∷◌, ◌++◌, length, slice_get, slice_set, map, filter_map, Option, Some, None, option_map, Result, Ok, Err}
 use Rattle.rv_model.specs.declared.stop.Stop.{Stop}
 use Rattle.rv_model.specs.declared.stop.Stop.TheVariants.{Misaligned, Unmapped, Gone, PastEnd, NotABlock}
@@ -12,7 +13,8 @@ use Rattle.ce_model.specs.declared.topology.BlockId.{BlockId}
 use Rattle.ce_model.specs.Limits.{window_base, window_size, window_count}
 use Rattle.ce_model.specs.Blocks.{Block}
 
--- private memory, and for each window used so far the block that it holds; an empty one is gone for good
+-- private memory, and for each window used so far the block that it holds; an empty one is gone for
+-- good
 pub record Space : Type 0 where
   pub private : List ℕ
   pub windows : List (Option Block)
@@ -54,53 +56,59 @@ mapped_ids space = filter_map (option_map (λ block. block.id)) space.windows
 
 -- where an access is made: at an offset of private memory, or of the block at a window
 pub data AccessSite : Type 0 where
-  in_private : ℕ → AccessSite
-  in_block : ℕ → Block → ℕ → AccessSite
+  private_site : ℕ → AccessSite
+  block_site : ℕ → Block → ℕ → AccessSite
 
--- an access above private memory: the window must have been used, must hold its block still, and the access must lie within it
+-- an access above private memory: the window must have been used, must hold its block still, and
+-- the access must lie within it
 abbrev pub site_in : Option (Option Block) → ℕ → ℕ → Result AccessSite Stop
 site_in None a size = Err (Unmapped a)
 site_in (Some None) a size = Err (Gone a)
 site_in (Some (Some block)) a size =
-    if nat_le (offset_of a + size) (length block.bytes) then Ok (in_block (window_of a) block (offset_of a)) else Err (PastEnd a)
+    if nat_le (offset_of a + size) (length block.bytes)
+    then Ok (block_site (window_of a) block (offset_of a)) else Err (PastEnd a)
 
--- where an access of `size` bytes at an address is made, or why it stops the process: it must be at a multiple of its size;
--- it is made in private memory, or else in the block of its window
+-- where an access of `size` bytes at an address is made, or why it stops the process: it must be at
+-- a multiple of its size; it is made in private memory, or else in the block of its window
 unfoldable pub access_site : Space → ℕ → ℕ → Result AccessSite Stop
 access_site space a size =
     if not (a % size == 0) then Err (Misaligned a)
-    else (if is_private a then Ok (in_private (a - PRIVATE_START))
+    else (if is_private a then Ok (private_site (a - PRIVATE_START))
     else (if nat_lt a window_base then Err (Unmapped a)
     else site_in (slice_get space.windows (window_of a)) a size))
 
 -- the number in the `size` bytes at a site
 abbrev pub number_in : Space → ℕ → AccessSite → ℕ
-number_in space size (in_private offset) = number_at space.private offset size
-number_in space size (in_block k block offset) = number_at block.bytes offset size
+number_in space size (private_site offset) = number_at space.private offset size
+number_in space size (block_site k block offset) = number_at block.bytes offset size
 
 -- the memory once the lowest `size` bytes of a number are written at a site
 abbrev pub with_number_in : Space → ℕ → ℕ → AccessSite → Space
-with_number_in space size n (in_private offset) = record space { private = with_number_at space.private offset size n }
-with_number_in space size n (in_block k block offset) =
-    record space { windows = slice_set space.windows k (Some (record block { bytes = with_number_at block.bytes offset size n })) }
+with_number_in space size n (private_site offset) =
+    record space { private = with_number_at space.private offset size n }
+with_number_in space size n (block_site k block offset) =
+    record space {
+      windows = slice_set space.windows k
+          (Some (record block { bytes = with_number_at block.bytes offset size n }));
+    }
 
 -- what comes of an answer that is no stop
 abbrev pub result_map : {X Y : Type 0} → (X → Y) → Result X Stop → Result Y Stop
 result_map f (Ok x) = Ok (f x)
 result_map f (Err cause) = Err cause
 
-abbrev pub loaded_at : Space → ℕ → ℕ → Result ℕ Stop
-loaded_at space a size = result_map (number_in space size) (access_site space a size)
+abbrev pub load_result : Space → ℕ → ℕ → Result ℕ Stop
+load_result space a size = result_map (number_in space size) (access_site space a size)
 
-abbrev pub stored_at : Space → ℕ → ℕ → ℕ → Result Space Stop
-stored_at space a size n = result_map (with_number_in space size n) (access_site space a size)
+abbrev pub store_result : Space → ℕ → ℕ → ℕ → Result Space Stop
+store_result space a size n = result_map (with_number_in space size n) (access_site space a size)
 
 -- what a process's memory answers; instructions are fetched from private memory alone
 abbrev pub process_access : Access Space
 process_access = record {
   fetch = λ space pc. word_at_pc space.private pc;
-  load = loaded_at;
-  store = stored_at;
+  load = load_result;
+  store = store_result;
 }
 
 -- ---- what a kernel call reads
@@ -117,7 +125,8 @@ is_window_start p = nat_le window_base p && offset_of p == 0
 
 -- the window and the block that an address names: it must be the start of a window that holds one
 unfoldable pub block_named : Space → ℕ → Result (ℕ × Block) Stop
-block_named space p = if is_window_start p then block_at_window (slice_get space.windows (window_of p)) p else Err (NotABlock p)
+block_named space p = if is_window_start p
+    then block_at_window (slice_get space.windows (window_of p)) p else Err (NotABlock p)
 
 -- what comes of a word that was read
 abbrev pub and_then : {X Y : Type 0} → Result X Stop → (X → Result Y Stop) → Result Y Stop
@@ -127,10 +136,14 @@ and_then (Err cause) f = Err cause
 -- a place: a word for the node, and behind it one for the process id
 abbrev pub memory_place : Space → ℕ → Result Place Stop
 memory_place space a =
-    and_then (loaded_at space a WORD_SIZE) (λ node. result_map (λ pid. record { node = node; pid = pid }) (loaded_at space (wrapping_sum a WORD_SIZE) WORD_SIZE))
+    and_then (load_result space a WORD_SIZE)
+    (λ node. result_map (λ pid. record { node = node; pid = pid })
+    (load_result space (wrapping_sum a WORD_SIZE) WORD_SIZE))
 
 -- so many places, one behind the other, or why a word of theirs can't be read
 abbrev pub places_at : Space → ℕ → ℕ → Result (List Place) Stop
 places_at space a zero = Ok []
 places_at space a (suc count) =
-    and_then (memory_place space a) (λ place. result_map (λ places. place ∷ places) (places_at space (wrapping_sum a (2 * WORD_SIZE)) count))
+    and_then (memory_place space a)
+    (λ place. result_map (λ places. place ∷ places)
+    (places_at space (wrapping_sum a (2 * WORD_SIZE)) count))

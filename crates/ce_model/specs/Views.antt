@@ -26,22 +26,29 @@ is_drain other = false
 -- the calls of a cube among these entries, as the cube knows them
 abbrev pub cube_entries : CubeGrant → List Entry → List Entry
 cube_entries grant entries =
-    map (entry_inward grant.sub) (filter (λ entry. entry.user == grant.user && is_some (recorded_call entry.what)) entries)
+    map (entry_inward grant.sub)
+    (filter (λ entry. entry.user == grant.user && is_some (recorded_call entry.what)) entries)
 
--- the trace of a cube in the history behind its grant: the calls of its user's cube up to the drain, as the cube knows them
+-- the trace of a cube in the history behind its grant: the calls of its user's cube up to the
+-- drain, as the cube knows them
 abbrev pub trace_behind : CubeGrant → List Entry → List Entry
-trace_behind grant behind = cube_entries grant (take_while (λ entry. not (entry.user == grant.user && is_drain entry.what)) behind)
+trace_behind grant behind = cube_entries grant
+    (take_while (λ entry. not (entry.user == grant.user && is_drain entry.what)) behind)
 
 -- a grant is of this number, or a later one is
-abbrev pub grant_or_later : Option CubeGrant → List Entry → ℕ → (ℕ → Option (CubeGrant × List Entry)) → Option (CubeGrant × List Entry)
-grant_or_later None behind number later = later number
-grant_or_later (Some grant) behind number later = if number == 0 then Some (grant, behind) else later (number - 1)
+abbrev pub grant_or_later : Option CubeGrant → List Entry → ℕ
+    → (ℕ → Option (CubeGrant × List Entry)) → Option (CubeGrant × List Entry)
+grant_or_later None behind number later_grant = later_grant number
+grant_or_later (Some grant) behind number later_grant =
+    if number == 0 then Some (grant, behind) else later_grant (number - 1)
 
 -- the grant of this number, and the history behind it
 abbrev pub history_behind_grant : List Entry → ℕ → Option (CubeGrant × List Entry)
 history_behind_grant [] number = None
-history_behind_grant (entry ∷ behind) number = grant_or_later (entry_grant entry) behind number (history_behind_grant behind)
+history_behind_grant (entry ∷ behind) number =
+    grant_or_later (entry_grant entry) behind number (history_behind_grant behind)
 
 -- the trace of the cube of this number; a number that was not granted has none
 unfoldable pub view : List Entry → ℕ → List Entry
-view history number = option_map_or (λ found. trace_behind found.0 found.1) (history_behind_grant history number) []
+view history number = option_map_or (λ grant_pair. trace_behind grant_pair.0 grant_pair.1)
+    (history_behind_grant history number) []

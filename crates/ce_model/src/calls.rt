@@ -1,4 +1,5 @@
-//! The calls of the kernel by their numbers (docs/SCRIPT.md, "Kernel calls and turns").
+//! The calls of the kernel by their numbers, and what they answer (docs/SCRIPT.md, "Kernel calls
+//! and turns").
 
 /// The argument that is a call's number: it is in a7, where a0 has argument 0.
 pub const NUMBER_ARGUMENT: u32 = 7;
@@ -44,3 +45,31 @@ pub const EXIT: u32 = 13;
 
 /// A word goes into the trace.
 pub const NOTE: u32 = 14;
+
+/// The answer of a call that did what it was made for and gives nothing.
+pub const DONE: u32 = 0;
+
+/// The answer of `xmalloc` where it maps nothing, and of `xrecv` where nothing came: no block is at
+/// this address.
+pub const NO_ADDRESS: u32 = 0;
+
+/// The answer of a call that names no place of the cube.
+pub const NO_PLACE: u32 = 1;
+
+/// The answer of `xmsend` where the store has fewer blocks than it needs copies.
+pub const TOO_FEW_BLOCKS: u32 = 2;
+
+/// The answer of `xmsend` to more than `GREATEST_TARGETS` places.
+pub const TOO_MANY_PLACES: u32 = 3;
+
+/// The answer of `spawn` where the id was used before.
+pub const USED_ID: u32 = 2;
+
+/// The answer of `spawn` where no image has that number.
+pub const NO_IMAGE: u32 = 3;
+
+/// The answer of `ckill` where the id was not used.
+pub const UNUSED_ID: u32 = 2;
+
+/// The answer of `ckill` where a kill was accepted before.
+pub const KILLED_BEFORE: u32 = 3;

@@ -1,7 +1,8 @@
 use crate::{Bytes, Place, Subcube, Targets};
 
-/// An entry of the machine's history: who made it, what it was, and what was answered. In the machine's history
-/// actors, places and homes of blocks are physical numbers; in the trace of one cube they are relative ones.
+/// An entry of the machine's history: who made it, what it was, and what was answered. In the
+/// machine's history actors, places and homes of blocks are physical numbers; in the trace of one
+/// cube they are relative ones.
 #[derive(Debug, Drop)]
 pub struct Entry {
     /// The user whose entry it is, below `GREATEST_USERS`.
@@ -38,16 +39,16 @@ pub enum What {
     HostTake {
         number: Option<u64>,
     },
-    /// Process `pid` sent `bytes`. The first target's message has the number `first`, each further one the
-    /// next number.
+    /// Process `pid` sent `bytes`. The first target's message has the number `first`, each further
+    /// one the next number.
     Send {
         pid: u32,
         first: u64,
         to: Targets,
         bytes: Bytes,
     },
-    /// Process `pid` had image `image` started as the process `to`; not `fresh` where that id was spawned before,
-    /// and then nothing is started.
+    /// Process `pid` had image `image` started as the process `to`; not `fresh` where that id was
+    /// spawned before, and then nothing is started.
     Spawn {
         pid: u32,
         image: u32,
@@ -58,15 +59,16 @@ pub enum What {
     Kill {
         pid: u32,
         to: Place,
-        found: KillFound,
+        found: KillResult,
     },
     /// Process `pid` left the word `word` in the trace.
     Note {
         pid: u32,
         word: u32,
     },
-    /// The node asked for work. `asking` and `dead` have one bit for each process that waits for a message and
-    /// that has stopped; `poller` is the one that asked longest ago whether a message is there.
+    /// The node asked for work. `asking` and `dead` have one bit for each process that waits for a
+    /// message and that has stopped; `poller` is the one that asked longest ago whether a message
+    /// is there.
     Take {
         asking: u32,
         dead: u32,
@@ -78,7 +80,8 @@ pub enum What {
 /// What a look at a cube finds.
 #[derive(Clone, Copy, Debug, PartialEq, Eq)]
 pub enum LookResult {
-    /// Each node was found idle by its last entry, or has none, and nothing that waits can be given to it.
+    /// Each node was found idle by its last entry, or has none, and nothing that waits can be given
+    /// to it.
     Quiet,
     /// It isn't quiet, and the allowed dispatches are used up.
     Spent,
@@ -88,7 +91,7 @@ pub enum LookResult {
 
 /// What a kill finds.
 #[derive(Clone, Copy, Debug, PartialEq, Eq)]
-pub enum KillFound {
+pub enum KillResult {
     /// The kill is on its way.
     Killed,
     /// No process was ever spawned there.

@@ -1,5 +1,6 @@
-//! The plain types that the whole machine speaks of: places, blocks, nodes, states of a process, and the entries of
-//! a machine's history, with those of `rv_model`. It knows no rule; the rules are definitions in `specs/`.
+//! The plain types that the whole machine speaks of: places, blocks, nodes, states of a process,
+//! and the entries of a machine's history, with those of `rv_model`. It knows no rule; the rules
+//! are definitions in `specs/`.
 #![tactic(auto)]
 
 pub mod calls;
@@ -9,7 +10,7 @@ mod lists;
 mod process;
 mod topology;
 
-pub use entry::{Entry, KillFound, LookResult, TakeResult, What};
+pub use entry::{Entry, KillResult, LookResult, TakeResult, What};
 pub use limits::{
     BLOCK_ROOM, GREATEST_BLOCKS, GREATEST_COUNT, GREATEST_DIMENSION, GREATEST_HISTORY,
     GREATEST_IMAGES, GREATEST_NODES, GREATEST_TARGETS, GREATEST_USERS, HOME_BLOCKS, HOST_HOME,

@@ -12,7 +12,8 @@ pub const PROCESS_COUNT: u32 = 8;
 /// How many message blocks are homed at each node and at each user's host.
 pub const HOME_BLOCKS: u32 = 32;
 
-/// How many message blocks the greatest cube has: those that its nodes are home to, and those of its host.
+/// How many message blocks the greatest cube has: those that its nodes are home to, and those of
+/// its host.
 pub const GREATEST_BLOCKS: u32 = (GREATEST_NODES + 1) * HOME_BLOCKS;
 
 /// How many bytes a message block can hold.
@@ -45,7 +46,8 @@ pub const GREATEST_USERS: u32 = 8;
 /// How many images a machine can have.
 pub const GREATEST_IMAGES: u32 = 64;
 
-/// How many messages can wait in a cube: as many as the greatest cube has blocks, those of its host included.
+/// How many messages can wait in a cube: as many as the greatest cube has blocks, those of its host
+/// included.
 pub const MAIL_ROOM: u32 = GREATEST_BLOCKS;
 
 /// How many items can wait at a node: all messages, and a start and a kill of each process.
@@ -57,8 +59,8 @@ pub const GREATEST_HISTORY: u64 = 1 << 57;
 /// How many bytes a script can have.
 pub const SCRIPT_LIMIT: usize = 1_048_576;
 
-/// The home of the blocks of a cube's host, as the cube knows it. In the machine it is this and the user's number
-/// together.
+/// The home of the blocks of a cube's host, as the cube knows it. In the machine it is this and the
+/// user's number together.
 pub const HOST_HOME: u32 = 256;
 
 // A node's home is never a host's, windows end with the addresses, and a block fits its window.

@@ -4,7 +4,7 @@ ghost use Rattle.ce_model.specs.Limits.{block_room};
 use crate::{BlockId, Place};
 use std::marker::Model;
 
-/// The bytes of a message, `BLOCK_ROOM` (4,096) at most. Contracts see it as their list.
+/// The bytes of a message, `BLOCK_ROOM` at most. Contracts see it as their list.
 #[derive(Debug, Drop)]
 pub struct Bytes {
     items: Vec<u8>,
@@ -47,8 +47,8 @@ impl Bytes {
     }
 }
 
-/// The places that a message was sent to, each with the block that carries it there. Contracts see it as the
-/// list of these pairs.
+/// The places that a message was sent to, each with the block that carries it there. Contracts see
+/// it as the list of these pairs.
 #[derive(Debug, Drop)]
 pub struct Targets {
     items: Vec<(Place, BlockId)>,

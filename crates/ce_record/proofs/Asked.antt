@@ -8,17 +8,17 @@ use Rattle.ce_model.specs.declared.topology.Subcube.{Subcube}
 use Rattle.ce_model.specs.declared.entry.Entry.{Entry}
 use Rattle.ce_model.specs.declared.entry.What.{What}
 use Rattle.ce_model.specs.declared.entry.What.TheVariants as whats
-use Rattle.ce_model.specs.declared.entry.KillFound.{KillFound}
+use Rattle.ce_model.specs.declared.entry.KillResult.{KillResult}
 use Rattle.ce_model.specs.Node.{Call, send_call, spawn_call, kill_call, is_place}
 use Rattle.ce_model.specs.Trace.{Standing}
-use Rattle.ce_model.specs.Answers.{is_among, kill_found, answer}
-use Rattle.ce_model.specs.Cube.{Cube, opening, state_after_trace, hoststore, host_call_of, actor_call, host_call}
+use Rattle.ce_model.specs.Answers.{is_among, kill_result, answer}
+use Rattle.ce_model.specs.Cube.{Cube, opening, state_after_trace, hoststore, wish_of_call, actor_call, call_of_wish}
 use Rattle.ce_model.specs.Owners.{IsBlockOf}
-use Rattle.ce_model.specs.Subcubes.{relative_number, first_free}
+use Rattle.ce_model.specs.Subcubes.{relative_number, first_free_subcube}
 use Rattle.ce_model.specs.Renaming.{place_inward, place_outward, block_outward, renamed_call_blocks, entry_inward}
 use Rattle.ce_model.specs.Views.{trace_behind, view}
-use Rattle.ce_model.specs.Machine.{MachineParts, IsMachine, IsLawful, HeldCube, after, cube_held_by, is_free, nodes_of, cube_standing, with_places_outward, Request, getcube, peek, drain, freecube, in_cube, IsCallOf}
-use Rattle.ce_model.specs.Literals.{of_host}
+use Rattle.ce_model.specs.Machine.{MachineParts, IsMachine, IsLawful, HeldCube, after, cube_held_by, is_free, nodes_of, cube_standing, with_places_outward, Request, getcube, peek, drain, freecube, cube_request, IsCallOf}
+use Rattle.ce_model.specs.Literals.{host_entry}
 use Rattle.ce_solo.proofs.Sending.{place_parts}
 use Rattle.ce_solo.proofs.Made.{made}
 use Rattle.ce_solo.proofs.Projection.Numbers.{IsPlaced, relative_host, place_in_out, block_in_out}
@@ -33,8 +33,8 @@ use Rattle.ce_host.specs.declared.answer.Answer.TheVariants as answers
 use Rattle.ce_script.specs.Rounds.{RoundKind}
 use Rattle.ce_daemon.specs.Peeks.{peek_result}
 use Rattle.ce_script.specs.Commands.{getcube_reply, kill_reply, IsAtPlace, IsSpawn, IsKill, IsSend}
-use Rattle.ce_record.specs.Asked.{command_request, entry_reply, IsAsked}
-use Rattle.ce_record.specs.Held.{holding_of, held_now, cube_in}
+use Rattle.ce_record.specs.Asked.{command_request, entry_reply, IsMadeByRequest}
+use Rattle.ce_record.specs.Held.{cube_holding, history_holding, granted_cube}
 use Rattle.ce_record.specs.Run.{IsNextCommand}
 use Rattle.ce_record.specs.Laws.{RequestsAreNext}
 use Rattle.ce_record.proofs.Held.{own-user}
@@ -108,7 +108,7 @@ some_what x y e = cc
 module _ (kind : RoundKind) (parts : MachineParts) (history : List Entry) (user : ℕ) where
   -- a command has this answer and makes this entry
   abbrev HasAnswer : Command → Answer → What → Type 0
-  HasAnswer command answer what = IsNextCommand kind parts history user command answer (of_host user what ∷ [])
+  HasAnswer command answer what = IsNextCommand kind parts history user command answer (host_entry user what ∷ [])
 
   -- a command has the answer that its entry gives
   by_entry : (command : Command) (what what' : What) (answer answer' : Answer) → what ≡ what' → entry_reply parts (after history) what ≡ Some answer
@@ -120,20 +120,20 @@ module _ (kind : RoundKind) (parts : MachineParts) (history : List Entry) (user 
       subst (λ answer. HasAnswer command answer what') is_answer
       (subst (λ what. HasAnswer command answer what) same next)
 
-  granted : (dim : ℕ) (found : Option Subcube) → cube_held_by (after history) user ≡ None → first_free (is_free (after history)) parts.dim dim ≡ found
+  granted : (dim : ℕ) (found : Option Subcube) → cube_held_by (after history) user ≡ None → first_free_subcube (is_free (after history)) parts.dim dim ≡ found
       → HasAnswer (Getcube dim) (getcube_reply found) (whats.Getcube dim found)
   granted dim None none free =
-      next-by kind parts history user None (Getcube dim) (getcube_reply None) (of_host user (whats.Getcube dim None) ∷ []) (ap (option_map (holding_of history)) none)
+      next-by kind parts history user None (Getcube dim) (getcube_reply None) (host_entry user (whats.Getcube dim None) ∷ []) (ap (option_map (cube_holding history)) none)
       (refl, tt) (None, refl, refl)
       (record { held = (λ e. absurd (cc), λ some. absurd (cc)); none = (λ e. (refl, free), λ nothing. refl) })
   granted dim (Some sub) none free =
-      next-by kind parts history user None (Getcube dim) (getcube_reply (Some sub)) (of_host user (whats.Getcube dim (Some sub)) ∷ []) (ap (option_map (holding_of history)) none)
+      next-by kind parts history user None (Getcube dim) (getcube_reply (Some sub)) (host_entry user (whats.Getcube dim (Some sub)) ∷ []) (ap (option_map (cube_holding history)) none)
       (refl, tt) (Some sub, refl, refl)
       (record { held = (λ e. absurd (cc), λ some. absurd (cc)); none = (λ e. absurd (cc), λ nothing. let no = nothing.1 in absurd (cc)) })
 
   looked : HasAnswer Peek (answers.Peeked (peek_result parts (after history))) whats.Peek
   looked =
-      next-by kind parts history user (held_now history user) Peek (answers.Peeked (peek_result parts (after history))) (of_host user whats.Peek ∷ []) refl (refl, tt)
+      next-by kind parts history user (history_holding history user) Peek (answers.Peeked (peek_result parts (after history))) (host_entry user whats.Peek ∷ []) refl (refl, tt)
       (history, refl, refl) tt
 
   -- ---- in a cube
@@ -146,14 +146,14 @@ module _ (kind : RoundKind) (parts : MachineParts) (history : List Entry) (user 
     placed = (before.held user cube holds).placed
 
     abbrev own : Cube
-    own = cube_in parts cube
+    own = granted_cube parts cube
 
     abbrev t : List Entry
     t = view history cube.number
 
     -- an entry of the host, as the cube knows it
     abbrev inward : What → Entry
-    inward what = entry_inward cube.grant.sub (of_host user what)
+    inward what = entry_inward cube.grant.sub (host_entry user what)
 
     user_is : user ≡ cube.grant.user
     user_is = sym (own-user history user cube holds)
@@ -162,14 +162,14 @@ module _ (kind : RoundKind) (parts : MachineParts) (history : List Entry) (user 
     to_is to place = place_in_out parts.dim cube.grant placed to (inl (place_parts cube.grant.dim to place).0)
 
     -- as the cube knows it, the host's entry is this one
-    pub inward-is : (what what' : What) → (inward what).what ≡ what' → inward what ≡ of_host cube.grant.user what'
+    pub inward-is : (what what' : What) → (inward what).what ≡ what' → inward what ≡ host_entry cube.grant.user what'
     inward-is what what' same = λ i. record { user = user_is i; actor = relative_host parts.dim cube.grant placed i; what = same i }
 
     -- a command at a place makes one entry
     at_place : (command : Command) (to : Place) (answer : Answer) (what : What) (P : List Entry → Type 0) → is_place cube.grant.dim to ≡ true
         → (IsAtPlace (is_place cube.grant.dim to) answer (inward what ∷ []) (P (inward what ∷ []))
         → HasAnswer command answer what)
-        → (what' : What) → (inward what).what ≡ what' → P (of_host cube.grant.user what' ∷ []) → HasAnswer command answer what
+        → (what' : What) → (inward what).what ≡ what' → P (host_entry cube.grant.user what' ∷ []) → HasAnswer command answer what
     at_place command to answer what P place next what' same is =
         next (at-place cube.grant.dim true to answer (inward what ∷ []) _ place
         (subst (λ entry. P (entry ∷ [])) (sym (inward-is what what' same)) is))
@@ -180,15 +180,15 @@ module _ (kind : RoundKind) (parts : MachineParts) (history : List Entry) (user 
         let reply : Answer = if fresh then answers.Ok else answers.Used in
         let what = whats.Spawn 0 image (place_outward cube.grant.sub to) fresh in
         at_place (Spawn image to) to reply what (IsSpawn cube.grant.user image to reply) place
-        (λ does. holder-next kind parts history user cube holds (Spawn image to) reply (of_host user what ∷ []) (refl, tt) does tt)
+        (λ does. holder-next kind parts history user cube holds (Spawn image to) reply (host_entry user what ∷ []) (refl, tt) does tt)
         (whats.Spawn 0 image to fresh) (ap (λ to. whats.Spawn 0 image to fresh) (to_is to place)) (fresh, refl, refl)
 
-    killed : (to : Place) (found : KillFound) → is_place cube.grant.dim to ≡ true
+    killed : (to : Place) (found : KillResult) → is_place cube.grant.dim to ≡ true
         → HasAnswer (Kill to) (kill_reply found) (whats.Kill 0 (place_outward cube.grant.sub to) found)
     killed to found place =
         let what = whats.Kill 0 (place_outward cube.grant.sub to) found in
         at_place (Kill to) to (kill_reply found) what (IsKill cube.grant.user to (kill_reply found)) place
-        (λ does. holder-next kind parts history user cube holds (Kill to) (kill_reply found) (of_host user what ∷ []) (refl, tt) does tt)
+        (λ does. holder-next kind parts history user cube holds (Kill to) (kill_reply found) (host_entry user what ∷ []) (refl, tt) does tt)
         (whats.Kill 0 to found) (ap (λ to. whats.Kill 0 to found) (to_is to place)) (found, refl, refl)
 
     sent : (to : Place) (bytes : List ℕ) (block : BlockId) (others : List BlockId) (first : ℕ) → is_place cube.grant.dim to ≡ true
@@ -197,40 +197,40 @@ module _ (kind : RoundKind) (parts : MachineParts) (history : List Entry) (user 
     sent to bytes block others first place store of_cube =
         let what = whats.Send 0 first ((place_outward cube.grant.sub to, block_outward cube.grant block) ∷ []) bytes in
         at_place (Send to bytes) to answers.Ok what (IsSend cube.grant.user (hoststore (opening own) t) to bytes answers.Ok) place
-        (λ does. holder-next kind parts history user cube holds (Send to bytes) answers.Ok (of_host user what ∷ []) (refl, tt) does tt)
+        (λ does. holder-next kind parts history user cube holds (Send to bytes) answers.Ok (host_entry user what ∷ []) (refl, tt) does tt)
         (whats.Send 0 first ((to, block) ∷ []) bytes)
         (λ i. whats.Send 0 first ((to_is to place i, block_in_out parts.dim cube.grant placed block of_cube i) ∷ []) bytes)
-        (subst (λ store. IsSend cube.grant.user store to bytes answers.Ok (of_host cube.grant.user (whats.Send 0 first ((to, block) ∷ []) bytes) ∷ [])) (sym store)
+        (subst (λ store. IsSend cube.grant.user store to bytes answers.Ok (host_entry cube.grant.user (whats.Send 0 first ((to, block) ∷ []) bytes) ∷ [])) (sym store)
         (first, refl, refl))
 
     -- ---- by a call that fits
 
     module _ (call : Call) (fits : IsCallOf parts history HOST call cube) where
       -- the host's user has it made
-      by_user : option_and_then (host_call own (hoststore (opening own) t)) (host_call_of fits.inner) ≡ Some fits.inner
+      by_user : option_and_then (call_of_wish own (hoststore (opening own) t)) (wish_of_call fits.inner) ≡ Some fits.inner
       by_user =
-          subst (λ actor. actor_call own (opening own) t actor (host_call_of fits.inner) ≡ Some fits.inner) (relative_host parts.dim cube.grant placed) fits.next
+          subst (λ actor. actor_call own (opening own) t actor (wish_of_call fits.inner) ≡ Some fits.inner) (relative_host parts.dim cube.grant placed) fits.next
 
       within : IsCallWithin cube.grant.dim fits.inner
       within =
           let was = before.held user cube holds in
           let left = state_after_trace own (opening own) (trace_behind cube.grant was.behind) in
-          let says = subst (λ t. actor_call own (opening own) t (relative_number cube.grant.sub HOST) (host_call_of fits.inner) ≡ Some fits.inner)
+          let says = subst (λ t. actor_call own (opening own) t (relative_number cube.grant.sub HOST) (wish_of_call fits.inner) ≡ Some fits.inner)
           (view-is history cube.number cube.grant was.behind was.found) fits.next in
           made-within own left (own_cube parts cube.grant machine was.placed)
           (stands parts machine (after history) history cube was fits.not_drained (before.views cube.number cube.grant was.behind was.found).alone).sound
-          (relative_number cube.grant.sub HOST) (host_call_of fits.inner) fits.inner (made own left (relative_number cube.grant.sub HOST) (host_call_of fits.inner) fits.inner says)
+          (relative_number cube.grant.sub HOST) (wish_of_call fits.inner) fits.inner (made own left (relative_number cube.grant.sub HOST) (wish_of_call fits.inner) fits.inner says)
 
     spawn_fits : (image : ℕ) (to : Place) → IsCallOf parts history HOST (spawn_call 0 image to) cube → is_place cube.grant.dim to ≡ true
     spawn_fits image to fits =
         let is = spawn_is (block_outward cube.grant) image to fits.inner fits.renamed in
-        let says = subst (λ made. option_and_then (host_call own (hoststore (opening own) t)) (host_call_of made) ≡ Some made) is (by_user (spawn_call 0 image to) fits) in
+        let says = subst (λ made. option_and_then (call_of_wish own (hoststore (opening own) t)) (wish_of_call made) ≡ Some made) is (by_user (spawn_call 0 image to) fits) in
         (and_parts _ _ (if_some (is_place cube.grant.dim to && nat_lt image (length parts.images)) _ _ says).0).0
 
     kill_fits : (to : Place) → IsCallOf parts history HOST (kill_call 0 to) cube → is_place cube.grant.dim to ≡ true
     kill_fits to fits =
         let is = kill_is (block_outward cube.grant) to fits.inner fits.renamed in
-        let says = subst (λ made. option_and_then (host_call own (hoststore (opening own) t)) (host_call_of made) ≡ Some made) is (by_user (kill_call 0 to) fits) in
+        let says = subst (λ made. option_and_then (call_of_wish own (hoststore (opening own) t)) (wish_of_call made) ≡ Some made) is (by_user (kill_call 0 to) fits) in
         (if_some (is_place cube.grant.dim to) _ _ says).0
 
     -- a message that fits goes to a place, in the least block of the host's store
@@ -246,7 +246,7 @@ module _ (kind : RoundKind) (parts : MachineParts) (history : List Entry) (user 
     send_fits id to bytes fits =
         let call = send_call 0 ((to, id) ∷ []) bytes in
         let m = send_is (block_outward cube.grant) id to bytes fits.inner fits.renamed in
-        let says = subst (λ made. option_and_then (host_call own (hoststore (opening own) t)) (host_call_of made) ≡ Some made) m.is (by_user call fits) in
+        let says = subst (λ made. option_and_then (call_of_wish own (hoststore (opening own) t)) (wish_of_call made) ≡ Some made) m.is (by_user call fits) in
         let parts = if_some (is_place cube.grant.dim to) _ _ says in
         let first = least (hoststore (opening own) t) to m.block bytes parts.1 in
         record {
@@ -283,7 +283,7 @@ module _ (kind : RoundKind) (parts : MachineParts) (history : List Entry) (user 
     unfolding answer
     kill_answered to fits reply is =
         by_entry (Kill to) _ _ _ reply refl refl is
-        (killed to (kill_found (now.node_record (place_outward cube.grant.sub to).node) to.pid) (kill_fits to fits))
+        (killed to (kill_result (now.node_record (place_outward cube.grant.sub to).node) to.pid) (kill_fits to fits))
 
     send_answered : (id : BlockId) (to : Place) (bytes : List ℕ) → IsAnswered (Send to bytes) (send_call 0 ((to, id) ∷ []) bytes)
     unfolding answer
@@ -292,10 +292,10 @@ module _ (kind : RoundKind) (parts : MachineParts) (history : List Entry) (user 
         by_entry (Send to bytes) _ _ _ reply (ap (λ id. whats.Send 0 now.parcel_count ((place_outward cube.grant.sub to, id) ∷ []) bytes) m.renamed) refl is
         (sent to bytes m.block m.others now.parcel_count m.place m.store m.of_cube)
 
-    same_call : (command : Command) (call call' : Call) → Some (in_cube call) ≡ Some (in_cube call') → IsAnswered command call → IsAnswered command call'
+    same_call : (command : Command) (call call' : Call) → Some (cube_request call) ≡ Some (cube_request call') → IsAnswered command call → IsAnswered command call'
     same_call command call call' e is = let same : call ≡ call' = cc in subst (IsAnswered command) same is
 
-    pub call_answered : (command : Command) (id : BlockId) (call : Call) → command_request id command ≡ Some (in_cube call) → IsAnswered command call
+    pub call_answered : (command : Command) (id : BlockId) (call : Call) → command_request id command ≡ Some (cube_request call) → IsAnswered command call
     call_answered (Spawn image to) id call e = same_call (Spawn image to) (spawn_call 0 image to) call e (spawn_answered image to)
     call_answered (Kill to) id call e = same_call (Kill to) (kill_call 0 to) call e (kill_answered to)
     call_answered (Send to bytes) id call e = same_call (Send to bytes) (send_call 0 ((to, id) ∷ []) bytes) call e (send_answered id to bytes)
@@ -304,7 +304,7 @@ module _ (kind : RoundKind) (parts : MachineParts) (history : List Entry) (user 
   -- ---- by what is requested
 
   module _ (machine : IsMachine parts) (lawful : IsLawful parts history) where
-    by_held : (command : Command) (id : BlockId) (call : Call) (what : What) (reply : Answer) (held : Option HeldCube) → command_request id command ≡ Some (in_cube call)
+    by_held : (command : Command) (id : BlockId) (call : Call) (what : What) (reply : Answer) (held : Option HeldCube) → command_request id command ≡ Some (cube_request call)
         → cube_held_by (after history) user ≡ held → IsSomeAnd held (IsCallOf parts history HOST call)
         → option_map (λ cube. answer (nodes_of cube.grant) (cube_standing (after history) cube) HOST (with_places_outward cube.grant call)) held ≡ Some what
         → entry_reply parts (after history) what ≡ Some reply → HasAnswer command reply what
@@ -315,13 +315,13 @@ module _ (kind : RoundKind) (parts : MachineParts) (history : List Entry) (user 
         (call_answered machine lawful cube is command id call e fits reply (ap (entry_reply parts (after history)) same ∙ replied))
 
     by_request : (command : Command) (id : BlockId) (request : Request) (what : What) (reply : Answer) → command_request id command ≡ Some request
-        → IsAsked parts history user request what → entry_reply parts (after history) what ≡ Some reply
+        → IsMadeByRequest parts history user request what → entry_reply parts (after history) what ≡ Some reply
         → HasAnswer command reply what
-    by_request command id (in_cube call) what reply e is replied = by_held command id call what reply (cube_held_by (after history) user) e refl is.fits.1 is.answer replied
+    by_request command id (cube_request call) what reply e is replied = by_held command id call what reply (cube_held_by (after history) user) e refl is.fits.1 is.answer replied
     by_request command id (getcube dim) what reply e is replied =
-        let same : whats.Getcube dim (first_free (is_free (after history)) parts.dim dim) ≡ what = some_what _ _ is.answer in
+        let same : whats.Getcube dim (first_free_subcube (is_free (after history)) parts.dim dim) ≡ what = some_what _ _ is.answer in
         subst (λ command. HasAnswer command reply what) (sym (asks_getcube command id dim e))
-        (by_entry (Getcube dim) _ what _ reply same refl replied (granted dim (first_free (is_free (after history)) parts.dim dim) is.fits.1.2 refl))
+        (by_entry (Getcube dim) _ what _ reply same refl replied (granted dim (first_free_subcube (is_free (after history)) parts.dim dim) is.fits.1.2 refl))
     by_request command id peek what reply e is replied =
         subst (λ command. HasAnswer command reply what) (sym (asks_peek command id e))
         (by_entry Peek whats.Peek what _ reply (some_what _ _ is.answer) refl replied looked)

@@ -13,27 +13,28 @@ use Rattle.ce_host.specs.declared.answer.Answer.{Answer}
 use Rattle.ce_host.specs.declared.answer.Answer.TheVariants.{NoCube, Held, Freed, NoPlace, NoStore, State, Entries}
 use Rattle.ce_script.specs.Rounds.{RoundKind}
 use Rattle.ce_script.specs.Moments.{Holding, later_moments}
-use Rattle.ce_script.specs.Commands.{IsCommand, IsAtPlace, IsSend}
+use Rattle.ce_script.specs.Commands.{IsCommand, IsAtPlace, IsSend, freecube_entries}
+use Rattle.ce_script.specs.Doings.{IsRefusedIfGetcube}
 use Rattle.ce_record.specs.Asked.{wants_cube, command_place}
-use Rattle.ce_record.specs.Held.{holding_of, held_now, cube_in}
-use Rattle.ce_record.specs.Run.{doing_behind, IsRefusedWhere, IsNextCommand}
+use Rattle.ce_record.specs.Held.{cube_holding, history_holding, granted_cube}
+use Rattle.ce_record.specs.Run.{next_doing, IsNextCommand}
 use Rattle.ce_record.proofs.Held.{own-user}
-use Rattle.ce_record.specs.Laws.{freecube_entries, NoCubeIsNext}
+use Rattle.ce_record.specs.Laws.{NoCubeIsNext}
 
 -- a command is next by what its user holds
 pub next-by : (kind : RoundKind) (parts : MachineParts) (history : List Entry) (user : ℕ) (held : Option Holding) (command : Command) (answer : Answer) (made : List Entry)
-    → held_now history user ≡ held → AllByRecursion (λ entry. entry.user ≡ user) made
-    → IsCommand kind parts user held command answer (later_moments history made) → IsRefusedWhere parts held (doing_behind history command answer made)
+    → history_holding history user ≡ held → AllByRecursion (λ entry. entry.user ≡ user) made
+    → IsCommand kind parts user held command answer (later_moments history made) → IsRefusedIfGetcube parts held (next_doing history command answer made)
     → IsNextCommand kind parts history user command answer made
 next-by kind parts history user held command answer made is own does refused = record {
   own = own;
   does = subst (λ held. IsCommand kind parts user held command answer (later_moments history made)) (sym is) does;
-  refused = subst (λ held. IsRefusedWhere parts held (doing_behind history command answer made)) (sym is) refused;
+  refused = subst (λ held. IsRefusedIfGetcube parts held (next_doing history command answer made)) (sym is) refused;
 }
 
 -- so is one that makes no entry
 at-once : (kind : RoundKind) (parts : MachineParts) (history : List Entry) (user : ℕ) (held : Option Holding) (command : Command) (answer : Answer)
-    → held_now history user ≡ held → IsCommand kind parts user held command answer [] → IsRefusedWhere parts held (doing_behind history command answer [])
+    → history_holding history user ≡ held → IsCommand kind parts user held command answer [] → IsRefusedIfGetcube parts held (next_doing history command answer [])
     → IsNextCommand kind parts history user command answer []
 at-once kind parts history user held command answer is does refused =
     next-by kind parts history user held command answer [] is tt does refused
@@ -41,8 +42,8 @@ at-once kind parts history user held command answer is does refused =
 pub no_cube : NoCubeIsNext
 no_cube kind parts history user command none wants = by_command command wants
   where
-    is : held_now history user ≡ None
-    is = ap (option_map (holding_of history)) none
+    is : history_holding history user ≡ None
+    is = ap (option_map (cube_holding history)) none
 
     by_command : (command : Command) → IsTrue (wants_cube command) → IsNextCommand kind parts history user command NoCube []
     by_command (Getcube dim) wants = absurd (cc)
@@ -59,15 +60,15 @@ at-place dim b to answer segment P place is = subst (λ b. IsAtPlace b answer se
 module _ (kind : RoundKind) (parts : MachineParts) (history : List Entry) (user : ℕ) (cube : HeldCube) (holds : cube_held_by (after history) user ≡ Some cube) where
   -- by what is held, a command is next
   pub holder-next : (command : Command) (answer : Answer) (made : List Entry) → AllByRecursion (λ entry. entry.user ≡ user) made
-      → IsCommand kind parts user (Some (holding_of history cube)) command answer (later_moments history made)
-      → IsRefusedWhere parts (Some (holding_of history cube)) (doing_behind history command answer made)
+      → IsCommand kind parts user (Some (cube_holding history cube)) command answer (later_moments history made)
+      → IsRefusedIfGetcube parts (Some (cube_holding history cube)) (next_doing history command answer made)
       → IsNextCommand kind parts history user command answer made
   holder-next command answer made =
-      next-by kind parts history user (Some (holding_of history cube)) command answer made (ap (option_map (holding_of history)) holds)
+      next-by kind parts history user (Some (cube_holding history cube)) command answer made (ap (option_map (cube_holding history)) holds)
 
-  now : (command : Command) (answer : Answer) → IsCommand kind parts user (Some (holding_of history cube)) command answer []
-      → IsRefusedWhere parts (Some (holding_of history cube)) (doing_behind history command answer []) → IsNextCommand kind parts history user command answer []
-  now command answer = at-once kind parts history user (Some (holding_of history cube)) command answer (ap (option_map (holding_of history)) holds)
+  now : (command : Command) (answer : Answer) → IsCommand kind parts user (Some (cube_holding history cube)) command answer []
+      → IsRefusedIfGetcube parts (Some (cube_holding history cube)) (next_doing history command answer []) → IsNextCommand kind parts history user command answer []
+  now command answer = at-once kind parts history user (Some (cube_holding history cube)) command answer (ap (option_map (cube_holding history)) holds)
 
   pub held : (dim : ℕ) → IsNextCommand kind parts history user (Getcube dim) Held []
   held dim =
@@ -78,7 +79,7 @@ module _ (kind : RoundKind) (parts : MachineParts) (history : List Entry) (user 
   at_to at to is place = let same : at ≡ to = cc in subst (λ place. is_place cube.grant.dim place ≡ false) (sym same) place
 
   abbrev state_at : Place → Answer
-  state_at at = State (process_at (rest (cube_in parts cube) (opening (cube_in parts cube)) at.node (view history cube.number)) at.pid).status
+  state_at at = State (process_at (rest (granted_cube parts cube) (opening (granted_cube parts cube)) at.node (view history cube.number)) at.pid).status
 
   nowhere : (to : Place) → is_place cube.grant.dim to ≡ false → (P : Type 0) → IsAtPlace (is_place cube.grant.dim to) NoPlace [] P
   nowhere to place P = at-place cube.grant.dim false to NoPlace [] P place (refl, refl)
@@ -91,7 +92,7 @@ module _ (kind : RoundKind) (parts : MachineParts) (history : List Entry) (user 
   no_place other to is place = absurd (cc)
 
   pub no_store : (to : Place) (bytes : List ℕ) → is_place cube.grant.dim to ≡ true
-      → hoststore (opening (cube_in parts cube)) (view history cube.number) ≡ [] → IsNextCommand kind parts history user (Send to bytes) NoStore []
+      → hoststore (opening (granted_cube parts cube)) (view history cube.number) ≡ [] → IsNextCommand kind parts history user (Send to bytes) NoStore []
   no_store to bytes place empty =
       now (Send to bytes) NoStore
       (at-place cube.grant.dim true to NoStore [] _ place (subst (λ store. IsSend cube.grant.user store to bytes NoStore []) (sym empty) (refl, refl))) tt

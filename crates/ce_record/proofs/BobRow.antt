@@ -1,5 +1,6 @@
--- The worked row in which a node is used again: the run of its second user, with one round with work and one without, is its next
--- command. What the process says is a premise, so that no memory is computed.
+-- The worked row in which a node is used again: the run of its second user, with one round with
+-- work and one without, is its next command. What the process says is a premise, so that no memory
+-- is computed.
 use Rattle.std.proofs.Common.{◌≡◌, true, false, List, [], ◌∷◌, take, drop, Some, refl, lit<, lit≤}
 use Rattle.rv_model.specs.Image.{ImageParts}
 use Rattle.ce_model.specs.declared.entry.Entry.{Entry}

@@ -12,19 +12,19 @@ use Rattle.ce_model.specs.declared.entry.What.TheVariants.{Getcube, Peek, Drain,
 use Rattle.ce_model.specs.Lists.{EachAfter}
 use Rattle.ce_model.specs.Node.{Call}
 use Rattle.ce_model.specs.Answers.{answer, recorded_call}
-use Rattle.ce_model.specs.Subcubes.{first_free}
+use Rattle.ce_model.specs.Subcubes.{first_free_subcube}
 use Rattle.ce_model.specs.Renaming.{CubeGrant, entry_inward}
 use Rattle.ce_model.specs.Views.{history_behind_grant, view}
-use Rattle.ce_model.specs.Machine.{MachineParts, IsMachine, HeldCube, MachineState, cube_held_by, is_free, nodes_of, cube_standing, record_by, cube_after_entry, with_cube, with_grant, with_drained, without_cube, state_after_entry, state_after_call, after, Request, getcube, peek, drain, freecube, in_cube, with_places_outward, what_of_request, IsCallOf, IsFitting, IsLawfulEntry, IsLawful}
+use Rattle.ce_model.specs.Machine.{MachineParts, IsMachine, HeldCube, MachineState, cube_held_by, is_free, nodes_of, cube_standing, record_after_entry, cube_after_entry, with_cube, with_grant, with_drained_cube, without_cube, state_after_entry, state_after_call, after, Request, getcube, peek, drain, freecube, cube_request, with_places_outward, what_of_request, IsCallOf, IsFitting, IsLawfulEntry, IsLawful}
 use Rattle.ce_model.proofs.Walked.{one_further, kept_by_each, each_of_front, each_behind}
-use Rattle.ce_model.specs.Literals.{of_host}
+use Rattle.ce_model.specs.Literals.{host_entry, entry_of}
 use Rattle.ce_solo.proofs.Projection.Views.{found-more, found-new, trace-stays, trace-grows, view-is}
 use Rattle.ce_solo.proofs.Projection.Held.{held-user, held-own, granted-own, left-own}
 use Rattle.ce_solo.proofs.Projection.Invariant.{projected-entry}
-use Rattle.ce_solo.proofs.Projection.Kinds.{and_false, entry_of}
+use Rattle.ce_solo.proofs.Projection.Kinds.{and_false}
 use Rattle.ce_solo.proofs.Projection.Law.{IsProjectedHistory, after-more, own-called, lawful-entry, projected}
 use Rattle.ce_script.specs.Moments.{Holding, with_entry, next_holding, holding, moment_entries, own_entries}
-use Rattle.ce_record.specs.Held.{holding_of, held_now}
+use Rattle.ce_record.specs.Held.{cube_holding, history_holding}
 use Rattle.ce_record.specs.Laws.{HoldingsAreTheMachines, HoldingsFollowDoings, OthersStay, CubeBegins}
 use Rattle.ce_record.proofs.Moments.{map-flat, entries-own}
 
@@ -77,28 +77,28 @@ module _ (parts : MachineParts) (h : List Entry) (before : IsProjectedHistory pa
 
   -- a user holds the same still, where the state says so and the entry is none of its cube
   same_held : (user : ℕ) (held : Option HeldCube) → cube_held_by (after h) user ≡ held → ((cube : HeldCube) → held ≡ Some cube → IsNoneOf cube)
-      → option_map (holding_of (h ++ entry ∷ [])) held ≡ option_map (holding_of h) held
+      → option_map (cube_holding (h ++ entry ∷ [])) held ≡ option_map (cube_holding h) held
   same_held user None is none = refl
   same_held user (Some cube) is none =
       ap (λ t. Some (record { grant = cube.grant; trace = t })) (view-stays user cube is (none cube refl))
 
   now-stays : (user : ℕ) → cube_held_by (after (h ++ entry ∷ [])) user ≡ cube_held_by (after h) user → ((cube : HeldCube) → cube_held_by (after h) user ≡ Some cube → IsNoneOf cube)
-      → held_now (h ++ entry ∷ []) user ≡ held_now h user
-  now-stays user same none = ap (option_map (holding_of (h ++ entry ∷ []))) same ∙ same_held user (cube_held_by (after h) user) refl none
+      → history_holding (h ++ entry ∷ []) user ≡ history_holding h user
+  now-stays user same none = ap (option_map (cube_holding (h ++ entry ∷ []))) same ∙ same_held user (cube_held_by (after h) user) refl none
 
 -- ---- an entry of the user
 
 -- by an entry of its own a user holds what the machine then says
 abbrev IsToldByHoldings : List Entry → Entry → Type 0
-IsToldByHoldings h entry = next_holding (held_now h entry.user) entry ≡ held_now (h ++ entry ∷ []) entry.user
+IsToldByHoldings h entry = next_holding (history_holding h entry.user) entry ≡ history_holding (h ++ entry ∷ []) entry.user
 
 module _ (parts : MachineParts) (machine : IsMachine parts) (h : List Entry) (before : IsProjectedHistory parts h) where
   -- what the machine says behind an entry that leaves this state
   now-is : (entry : Entry) (state : MachineState) (held : Option HeldCube) → state_after_entry (after h) entry ≡ state → cube_held_by state entry.user ≡ held
-      → held_now (h ++ entry ∷ []) entry.user ≡ option_map (holding_of (h ++ entry ∷ [])) held
+      → history_holding (h ++ entry ∷ []) entry.user ≡ option_map (cube_holding (h ++ entry ∷ [])) held
   now-is entry state held is same =
-      ap (λ state. option_map (holding_of (h ++ entry ∷ [])) (cube_held_by state entry.user)) (after-more h entry ∙ is)
-      ∙ ap (option_map (holding_of (h ++ entry ∷ []))) same
+      ap (λ state. option_map (cube_holding (h ++ entry ∷ [])) (cube_held_by state entry.user)) (after-more h entry ∙ is)
+      ∙ ap (option_map (cube_holding (h ++ entry ∷ []))) same
 
   by_what : (entry : Entry) (what : What) → Some what ≡ Some entry.what → IsToldByHoldings h (entry_of entry.user entry.actor what) → IsToldByHoldings h entry
   by_what entry what e tells =
@@ -107,7 +107,7 @@ module _ (parts : MachineParts) (machine : IsMachine parts) (h : List Entry) (be
   by_grant : (entry : Entry) (d : ℕ) (found : Option Subcube) → cube_held_by (after h) entry.user ≡ None → Some (Getcube d found) ≡ Some entry.what → IsToldByHoldings h entry
   by_grant entry d None none e =
       by_what entry (Getcube d None) e
-      (ap (option_map (holding_of h)) none ∙ sym (now-is (entry_of entry.user entry.actor (Getcube d None)) (after h) None refl none))
+      (ap (option_map (cube_holding h)) none ∙ sym (now-is (entry_of entry.user entry.actor (Getcube d None)) (after h) None refl none))
   by_grant entry d (Some sub) none e =
       let grant : CubeGrant = record { user = entry.user; dim = d; sub = sub } in
       let granting = entry_of entry.user entry.actor (Getcube d (Some sub)) in
@@ -129,9 +129,9 @@ module _ (parts : MachineParts) (machine : IsMachine parts) (h : List Entry) (be
   by_drain entry (Some cube) is some e =
       let draining = entry_of entry.user entry.actor Drain in
       by_what entry Drain e
-      (ap (option_map (holding_of h)) is
+      (ap (option_map (cube_holding h)) is
       ∙ ap (λ t. Some (record { grant = cube.grant; trace = t })) (sym (view-stays parts h before draining entry.user cube is (and_false _ _ refl)))
-      ∙ sym (now-is draining (with_drained entry.user (after h)) (Some (record cube { is_drained = true; mail = [] })) refl
+      ∙ sym (now-is draining (with_drained_cube entry.user (after h)) (Some (record cube { is_drained = true; mail = [] })) refl
       (held-own entry.user (λ cube. record cube { is_drained = true; mail = [] }) (λ cube. refl) (λ cube node run_record. record run_record { waiting_items = [] }) (after h) cube is)))
 
   by_free : (entry : Entry) → Some Freecube ≡ Some entry.what → IsToldByHoldings h entry
@@ -145,26 +145,26 @@ module _ (parts : MachineParts) (machine : IsMachine parts) (h : List Entry) (be
   by_call entry call None is some e = absurd some
   by_call entry call (Some cube) is fits e =
       let own = own-called parts machine h before entry call cube is fits e in
-      extends (held_now h entry.user) entry.user entry.actor entry.what own.call own.called
-      ∙ ap (λ held. option_map (with_entry entry) (option_map (holding_of h) held)) is
+      extends (history_holding h entry.user) entry.user entry.actor entry.what own.call own.called
+      ∙ ap (λ held. option_map (with_entry entry) (option_map (cube_holding h) held)) is
       ∙ ap (λ t. Some (record { grant = cube.grant; trace = t })) (sym (view-grows parts h before entry entry.user cube own.call is refl own.called fits.not_drained))
-      ∙ sym (now-is entry (with_cube entry.user (cube_after_entry entry) (λ cube. record_by cube.grant.sub entry) (after h)) (Some (cube_after_entry entry cube))
+      ∙ sym (now-is entry (with_cube entry.user (cube_after_entry entry) (λ cube. record_after_entry cube.grant.sub entry) (after h)) (Some (cube_after_entry entry cube))
       (ap (λ call. state_after_call call entry (after h)) own.called)
-      (held-own entry.user (cube_after_entry entry) (λ cube. refl) (λ cube. record_by cube.grant.sub entry) (after h) cube is))
+      (held-own entry.user (cube_after_entry entry) (λ cube. refl) (λ cube. record_after_entry cube.grant.sub entry) (after h) cube is))
 
   by_request : (entry : Entry) (request : Request) → IsFitting parts h entry.user entry.actor request → what_of_request parts (after h) entry.user entry.actor request ≡ Some entry.what
       → IsToldByHoldings h entry
-  by_request entry (getcube d) fits e = by_grant entry d (first_free (is_free (after h)) parts.dim d) fits.1.2 e
+  by_request entry (getcube d) fits e = by_grant entry d (first_free_subcube (is_free (after h)) parts.dim d) fits.1.2 e
   by_request entry peek fits e = by_peek entry e
   by_request entry drain fits e = by_drain entry (cube_held_by (after h) entry.user) refl fits.1.1 e
   by_request entry freecube fits e = by_free entry e
-  by_request entry (in_cube call) fits e = by_call entry call (cube_held_by (after h) entry.user) refl fits.1 e
+  by_request entry (cube_request call) fits e = by_call entry call (cube_held_by (after h) entry.user) refl fits.1 e
 
 -- ---- a whole history
 
 -- what users hold by their own entries is what the machine says
 abbrev AreTold : List Entry → Type 0
-AreTold h = (user : ℕ) → holding (own_entries user h) ≡ held_now h user
+AreTold h = (user : ℕ) → holding (own_entries user h) ≡ history_holding h user
 
 told-nil : AreTold []
 unfolding holding after
@@ -176,7 +176,7 @@ module _ (parts : MachineParts) (machine : IsMachine parts) (h : List Entry) (en
   state-stays : cube_held_by (after (h ++ entry ∷ [])) user ≡ cube_held_by (after h) user
   state-stays = (lawful-entry parts machine h before entry is).others user other
 
-  other-stays : held_now (h ++ entry ∷ []) user ≡ held_now h user
+  other-stays : history_holding (h ++ entry ∷ []) user ≡ history_holding h user
   other-stays =
       now-stays parts h before entry user state-stays
       (λ cube held. ap (λ b. b && is_some (recorded_call entry.what))
@@ -188,7 +188,7 @@ told-entry parts machine h entry before told is user =
     elim (cases_Bool (entry.user == user)) [
       | inl own ↦
           ap holding (own-one user h entry own) ∙ holding-more (own_entries user h) entry ∙ ap (λ held. next_holding held entry) (told user)
-          ∙ subst (λ user. next_holding (held_now h user) entry ≡ held_now (h ++ entry ∷ []) user) (eqb-true _ _ own)
+          ∙ subst (λ user. next_holding (history_holding h user) entry ≡ history_holding (h ++ entry ∷ []) user) (eqb-true _ _ own)
           (by_request parts machine h before entry is.request is.fits is.answer)
       | inr other ↦ ap holding (own-none user h entry other) ∙ told user ∙ sym (other-stays parts machine h entry before is user other)
     ]
@@ -213,7 +213,7 @@ held_after_is_held parts history user doings machine lawful own =
 
 -- the same is held behind more of a history
 abbrev IsHeldStill : ℕ → List Entry → List Entry → Type 0
-IsHeldStill user h h' = (cube_held_by (after h') user ≡ cube_held_by (after h) user) × (held_now h' user ≡ held_now h user)
+IsHeldStill user h h' = (cube_held_by (after h') user ≡ cube_held_by (after h) user) × (history_holding h' user ≡ history_holding h user)
 
 stay : (parts : MachineParts) → IsMachine parts → (h others : List Entry) (user : ℕ) → IsProjectedHistory parts h → EachAfter (IsLawfulEntry parts) h others
     → AllByRecursion (λ entry. entry.user ≢ user) others → IsHeldStill user h (h ++ others)
@@ -237,7 +237,7 @@ pub cube_begins : CubeBegins
 cube_begins parts history user dim sub machine lawful asked =
     let before = projected parts history machine lawful in
     let grant : CubeGrant = record { user = user; dim = dim; sub = sub } in
-    let granting = of_host user (Getcube dim (Some sub)) in (
+    let granting = host_entry user (Getcube dim (Some sub)) in (
       ap (λ state. cube_held_by state user) (after-more history granting) ∙ granted-own grant (after history) asked.fits.1.2,
       view-is (history ++ granting ∷ []) (after history).grant_count grant []
           (ap (history_behind_grant (history ++ granting ∷ [])) before.count ∙ found-new history granting grant refl),

@@ -17,7 +17,7 @@ use Rattle.ce_host.specs.declared.answer.Answer.{Answer}
 use Rattle.ce_script.specs.declared.record.UserRecord.{UserRecord}
 use Rattle.ce_script.specs.declared.record.Record.{Record}
 use Rattle.ce_script.specs.declared.script.Script.{Script}
-use Rattle.ce_script.specs.Bounds.{IsWithinLimits, IsOwnCommandWithin}
+use Rattle.ce_script.specs.Bounds.{IsWithinLimits, IsUserCommandWithin}
 use Rattle.ce_script.specs.Rounds.{RoundKind, serial}
 use Rattle.ce_script.specs.Moments.{moments}
 use Rattle.ce_script.specs.Doings.{Doing, AreDoings}
@@ -80,7 +80,7 @@ script_has_machine script within some = record {
 }
 
 -- a script without users has no commands, and its run no history
-no_commands : (images : ℕ) (commands : List (ℕ × Command)) → AllByRecursion (IsOwnCommandWithin 0 images) commands → commands ≡ []
+no_commands : (images : ℕ) (commands : List (ℕ × Command)) → AllByRecursion (IsUserCommandWithin 0 images) commands → commands ≡ []
 no_commands images [] all = refl
 no_commands images (own ∷ commands) all = absurd (omega (arith, all.0.0))
 
@@ -190,7 +190,7 @@ module _ (script : Script) (run_record : Record) (all : List (ℕ × Doing)) (wi
     (run : IsRunSoFar serial (machine_of script) run_record.history all) (keeps : IsRecordOfRun script all run_record) where
   empty : script.users ≡ [] → run_record.history ≡ []
   empty none =
-      let few = subst (λ users. AllByRecursion (IsOwnCommandWithin (length users) (length script.images)) script.commands) none within.commands in
+      let few = subst (λ users. AllByRecursion (IsUserCommandWithin (length users) (length script.images)) script.commands) none within.commands in
       let nothing = map-none command_of all (keeps.commands ∙ no_commands (length script.images) script.commands few) in
       no_history run_record.history (sym (ap (flat_map (λ (own : ℕ × Doing). own.1.moments)) nothing) ∙ run.together)
 
@@ -226,7 +226,7 @@ run_is_legal script run_record all within lawful run keeps =
 
 pub no_user_is_legal : NoUserIsLegal
 no_user_is_legal kind script within none =
-    let few = subst (λ users. AllByRecursion (IsOwnCommandWithin (length users) (length script.images)) script.commands) none within.commands in
+    let few = subst (λ users. AllByRecursion (IsUserCommandWithin (length users) (length script.images)) script.commands) none within.commands in
     let run_record : Record = record { users = []; history = [] } in (
       legal_by kind script run_record within tt (λ none. refl) (record { users = sym none; commands = tt }) tt,
       record {

@@ -21,7 +21,7 @@ use Rattle.ce_solo.proofs.Projection.Views.{view-is}
 use Rattle.ce_solo.proofs.Projection.Law.{projected}
 use Rattle.ce_host.specs.declared.answer.Answer.TheVariants.{Message}
 use Rattle.ce_script.specs.Commands.{message_reply}
-use Rattle.ce_record.specs.Held.{cube_in}
+use Rattle.ce_record.specs.Held.{granted_cube}
 use Rattle.ce_record.specs.Laws.{MessageIsSent}
 
 -- the parcel of this number
@@ -106,7 +106,7 @@ sent-append o r t more =
 pub message : MessageIsSent
 message parts history user cube holds machine lawful goes number parcel more numbered =
     let was = (projected parts history machine lawful).held user cube holds in
-    let o = (opening (cube_in parts cube)).standing in
+    let o = (opening (granted_cube parts cube)).standing in
     let t = view history cube.number in
     let rename = block_outward cube.grant in
     let run_record : cube.mail ≡ map (renamed_item rename) (waiting_items o HOST t) =

@@ -1,4 +1,5 @@
--- The worked row in which no cube of dimension 1 is free, run command by command: its record is legal and serial.
+-- The worked row in which no cube of dimension 1 is free, run command by command: its record is
+-- legal and serial.
 use Rattle.std.proofs.Common.{◌≡◌, ℕ, List, [], ◌∷◌, ◌++◌, take, drop, Some, None, refl, sym, subst, lit<, lit≤}
 use Rattle.std.specs.List.{IsDistinct}
 use Rattle.std.proofs.lemmas.List.{take-append-drop}
@@ -7,7 +8,7 @@ use Rattle.ce_model.specs.declared.entry.Entry.{Entry}
 use Rattle.ce_model.specs.declared.entry.What.{What}
 use Rattle.ce_model.specs.declared.entry.What.TheVariants as whats
 use Rattle.ce_model.specs.Limits.{greatest_dim, greatest_users, greatest_images}
-use Rattle.ce_model.specs.Subcubes.{extract, deposit, subcubes, first_free}
+use Rattle.ce_model.specs.Subcubes.{extract, deposit, subcubes, first_free_subcube}
 use Rattle.ce_model.specs.Views.{view}
 use Rattle.ce_model.specs.Machine.{MachineParts, IsMachine, IsLawful, IsLawfulEntry, HeldCube, after, cube_held_by, Request, getcube, peek, drain, freecube, new_cube}
 use Rattle.ce_model.proofs.Walked.{each_of_front}
@@ -24,8 +25,8 @@ use Rattle.ce_script.specs.Legal.{machine_of, IsLegal}
 use Rattle.ce_script.specs.Serial.{IsSerial}
 use Rattle.ce_script.proofs.Rows.{entry_of, block, subcube}
 use Rattle.ce_script.proofs.RowNoFit.{grant, the_script, the_record}
-use Rattle.ce_record.specs.Asked.{IsAsked, command_request, entry_reply}
-use Rattle.ce_record.specs.Run.{IsRunSoFar, doing_behind, IsNextCommand}
+use Rattle.ce_record.specs.Asked.{IsMadeByRequest, command_request, entry_reply}
+use Rattle.ce_record.specs.Run.{IsRunSoFar, next_doing, IsNextCommand}
 use Rattle.ce_record.proofs.AtOnce.{freecube_next}
 use Rattle.ce_record.proofs.Asked.{asked}
 use Rattle.ce_record.proofs.Run.{run_begins, run_goes_on}
@@ -44,34 +45,34 @@ at count = take count the_record.history
 
 -- ---- what the machine is asked
 
-a_asks : IsAsked machine (at 0) 0 (getcube 0) (whats.Getcube 0 (Some (subcube 0 0)))
-unfolding after first_free subcubes extract deposit greatest_dim
+a_asks : IsMadeByRequest machine (at 0) 0 (getcube 0) (whats.Getcube 0 (Some (subcube 0 0)))
+unfolding after first_free_subcube subcubes extract deposit greatest_dim
 a_asks = record { fits = (lit< tt, (refl, lit≤ tt, refl)); answer = refl }
 
-b_asks : IsAsked machine (at 1) 1 (getcube 0) (whats.Getcube 0 (Some (subcube 0 1)))
-unfolding after first_free subcubes extract deposit greatest_dim
+b_asks : IsMadeByRequest machine (at 1) 1 (getcube 0) (whats.Getcube 0 (Some (subcube 0 1)))
+unfolding after first_free_subcube subcubes extract deposit greatest_dim
 b_asks = record { fits = (lit< tt, (refl, lit≤ tt, refl)); answer = refl }
 
-c_asks : IsAsked machine (at 2) 2 (getcube 0) (whats.Getcube 0 (Some (subcube 0 2)))
-unfolding after first_free subcubes extract deposit greatest_dim
+c_asks : IsMadeByRequest machine (at 2) 2 (getcube 0) (whats.Getcube 0 (Some (subcube 0 2)))
+unfolding after first_free_subcube subcubes extract deposit greatest_dim
 c_asks = record { fits = (lit< tt, (refl, lit≤ tt, refl)); answer = refl }
 
-a_drains : IsAsked machine (at 3) 0 drain whats.Drain
+a_drains : IsMadeByRequest machine (at 3) 0 drain whats.Drain
 unfolding after
 a_drains = record { fits = (lit< tt, (refl, refl)); answer = refl }
 
-a_frees : IsAsked machine (at 4) 0 freecube whats.Freecube
+a_frees : IsMadeByRequest machine (at 4) 0 freecube whats.Freecube
 unfolding after
 a_frees = record { fits = (lit< tt, (refl, refl)); answer = refl }
 
-d_asks : IsAsked machine (at 5) 3 (getcube 1) (whats.Getcube 1 None)
-unfolding after first_free subcubes extract deposit greatest_dim
+d_asks : IsMadeByRequest machine (at 5) 3 (getcube 1) (whats.Getcube 1 None)
+unfolding after first_free_subcube subcubes extract deposit greatest_dim
 d_asks = record { fits = (lit< tt, (refl, lit≤ tt, refl)); answer = refl }
 
-d_peeks : IsAsked machine (at 6) 3 peek whats.Peek
+d_peeks : IsMadeByRequest machine (at 6) 3 peek whats.Peek
 d_peeks = record { fits = (lit< tt, refl); answer = refl }
 
-lawful_entry : (history : List Entry) (user : ℕ) (request : Request) (what : What) → IsAsked machine history user request what
+lawful_entry : (history : List Entry) (user : ℕ) (request : Request) (what : What) → IsMadeByRequest machine history user request what
     → IsLawfulEntry machine history (entry_of user HOST what)
 lawful_entry history user request what asked = record { request = request; fits = asked.fits; answer = asked.answer }
 
@@ -100,19 +101,19 @@ lawful_at count =
 -- what was done, command by command
 abbrev all : ℕ → List (ℕ × Doing)
 all count = take count (
-    (0, doing_behind (at 0) (Getcube 0) (answers.Granted (subcube 0 0)) (entry_of 0 HOST (whats.Getcube 0 (Some (subcube 0 0))) ∷ []))
-    ∷ (1, doing_behind (at 1) (Getcube 0) (answers.Granted (subcube 0 1)) (entry_of 1 HOST (whats.Getcube 0 (Some (subcube 0 1))) ∷ []))
-    ∷ (2, doing_behind (at 2) (Getcube 0) (answers.Granted (subcube 0 2)) (entry_of 2 HOST (whats.Getcube 0 (Some (subcube 0 2))) ∷ []))
-    ∷ (0, doing_behind (at 3) Freecube answers.Freed (entry_of 0 HOST whats.Drain ∷ entry_of 0 HOST whats.Freecube ∷ []))
-    ∷ (3, doing_behind (at 5) (Getcube 1) answers.None (entry_of 3 HOST (whats.Getcube 1 None) ∷ []))
-    ∷ (3, doing_behind (at 6) Peek (answers.Peeked (record { free = 2; grants = grant 1 ∷ grant 2 ∷ [] })) (entry_of 3 HOST whats.Peek ∷ []))
+    (0, next_doing (at 0) (Getcube 0) (answers.Granted (subcube 0 0)) (entry_of 0 HOST (whats.Getcube 0 (Some (subcube 0 0))) ∷ []))
+    ∷ (1, next_doing (at 1) (Getcube 0) (answers.Granted (subcube 0 1)) (entry_of 1 HOST (whats.Getcube 0 (Some (subcube 0 1))) ∷ []))
+    ∷ (2, next_doing (at 2) (Getcube 0) (answers.Granted (subcube 0 2)) (entry_of 2 HOST (whats.Getcube 0 (Some (subcube 0 2))) ∷ []))
+    ∷ (0, next_doing (at 3) Freecube answers.Freed (entry_of 0 HOST whats.Drain ∷ entry_of 0 HOST whats.Freecube ∷ []))
+    ∷ (3, next_doing (at 5) (Getcube 1) answers.None (entry_of 3 HOST (whats.Getcube 1 None) ∷ []))
+    ∷ (3, next_doing (at 6) Peek (answers.Peeked (record { free = 2; grants = grant 1 ∷ grant 2 ∷ [] })) (entry_of 3 HOST whats.Peek ∷ []))
     ∷ [])
 
 -- a command that asks, where so many commands and so many entries were made
 goes_on : (done made user : ℕ) (command : Command) (request : Request) (what : What) (answer : Answer) → IsRunSoFar serial machine (at made) (all done)
-    → command_request (block 0 0) command ≡ Some request → IsAsked machine (at made) user request what → entry_reply machine (after (at made)) what ≡ Some answer
+    → command_request (block 0 0) command ≡ Some request → IsMadeByRequest machine (at made) user request what → entry_reply machine (after (at made)) what ≡ Some answer
     → IsRunSoFar serial machine (at made ++ entry_of user HOST what ∷ [])
-    (all done ++ (user, doing_behind (at made) command answer (entry_of user HOST what ∷ [])) ∷ [])
+    (all done ++ (user, next_doing (at made) command answer (entry_of user HOST what ∷ [])) ∷ [])
 goes_on done made user command request what answer run is asks replied =
     run_goes_on serial machine (at made) (all done) user command answer (entry_of user HOST what ∷ []) is_machine (lawful_at made) run
     (asked serial machine (at made) user command (block 0 0) request what answer is_machine (lawful_at made) is asks replied)
@@ -165,7 +166,7 @@ unfolding after
 held_is_not_next next = let holds = next.refused.held.0 refl in absurd (cc)
 
 pub none_is_not_next : IsNextCommand serial machine (at 0) 3 (Getcube 1) answers.None (entry_of 3 HOST (whats.Getcube 1 None) ∷ []) → ⊥
-unfolding after first_free subcubes extract deposit greatest_dim
+unfolding after first_free_subcube subcubes extract deposit greatest_dim
 none_is_not_next next = let none = (next.refused.none.0 refl).1 in absurd (cc)
 
 -- a cube isn't given back without its drain

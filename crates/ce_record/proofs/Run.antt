@@ -11,7 +11,7 @@ use Rattle.ce_script.specs.Rounds.{RoundKind}
 use Rattle.ce_script.specs.Moments.{moments, later_moments}
 use Rattle.ce_script.specs.Doings.{Doing}
 use Rattle.ce_script.specs.Serial.{doings_of}
-use Rattle.ce_record.specs.Run.{IsRunSoFar, doing_behind, IsNextCommand}
+use Rattle.ce_record.specs.Run.{IsRunSoFar, next_doing, IsNextCommand}
 use Rattle.ce_record.specs.Users.{HasDoneSoFar}
 use Rattle.ce_record.specs.Laws.{RunBegins, RunGoesOn}
 use Rattle.ce_record.proofs.Moments.{flat-last, moments-append, own-all, foreign-to}
@@ -43,7 +43,7 @@ module _ (all : List (ℕ × Doing)) (user : ℕ) (doing : Doing) where
 module _ (kind : RoundKind) (machine : MachineParts) (history : List Entry) (all : List (ℕ × Doing)) (user : ℕ) (command : Command) (answer : Answer) (made : List Entry)
     (of : IsMachine machine) (lawful : IsLawful machine history) (run : IsRunSoFar kind machine history all) (next : IsNextCommand kind machine history user command answer made) where
   abbrev doing : Doing
-  doing = doing_behind history command answer made
+  doing = next_doing history command answer made
 
   -- what is to be shown of each user
   abbrev HasDoneAll : ℕ → List Doing → Type 0

@@ -8,7 +8,7 @@ use Rattle.ce_model.specs.declared.entry.What.{What}
 use Rattle.ce_model.specs.declared.entry.What.TheVariants.{Send, Spawn, Kill}
 use Rattle.ce_model.specs.Trace.{is_work}
 use Rattle.ce_model.specs.Renaming.{entry_inward}
-use Rattle.ce_solo.proofs.Projection.Kinds.{entry_of}
+use Rattle.ce_model.specs.Literals.{entry_of}
 use Rattle.ce_script.specs.Rounds.{entry_take_result, joined_lists, has_work}
 
 pub joined-map : (f : Entry → Entry) (lists : List (List Entry)) → map f (joined_lists lists) ≡ joined_lists (map (map f) lists)

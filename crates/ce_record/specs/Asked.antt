@@ -7,9 +7,9 @@ use Rattle.ce_model.specs.declared.entry.Entry.{Entry}
 use Rattle.ce_model.specs.declared.entry.What.{What}
 use Rattle.ce_model.specs.declared.entry.What.TheVariants as whats
 use Rattle.ce_model.specs.Node.{send_call, spawn_call, kill_call}
-use Rattle.ce_model.specs.Machine.{MachineParts, MachineState, after, Request, getcube, peek, in_cube, what_of_request, IsFitting}
+use Rattle.ce_model.specs.Machine.{MachineParts, MachineState, after, Request, getcube, peek, cube_request, what_of_request, IsFitting}
 use Rattle.rk_mail.specs.declared.talk.Hearing.{Hearing}
-use Rattle.rk_mail.specs.declared.talk.Hearing.TheVariants as hearing
+use Rattle.rk_mail.specs.declared.talk.Hearing.TheVariants as hearings
 use Rattle.ce_host.specs.declared.command.Command.{Command}
 use Rattle.ce_host.specs.declared.command.Command.TheVariants.{Getcube, Peek, Spawn, Kill, Send, Dump}
 use Rattle.ce_host.specs.declared.answer.Answer.{Answer}
@@ -28,38 +28,40 @@ abbrev pub command_place : Command → Option Place
 command_place (Spawn image to) = Some to
 command_place (Kill to) = Some to
 command_place (Send to bytes) = Some to
-command_place (Dump at) = Some at
+command_place (Dump place) = Some place
 command_place other = None
 
 -- what a command asks of the machine that makes one entry; a message goes in the block of this name
 abbrev pub command_request : BlockId → Command → Option Request
 command_request id (Getcube dim) = Some (getcube dim)
 command_request id Peek = Some peek
-command_request id (Spawn image to) = Some (in_cube (spawn_call 0 image to))
-command_request id (Kill to) = Some (in_cube (kill_call 0 to))
-command_request id (Send to bytes) = Some (in_cube (send_call 0 ((to, id) ∷ []) bytes))
+command_request id (Spawn image to) = Some (cube_request (spawn_call 0 image to))
+command_request id (Kill to) = Some (cube_request (kill_call 0 to))
+command_request id (Send to bytes) = Some (cube_request (send_call 0 ((to, id) ∷ []) bytes))
 command_request id other = None
 
 -- what a command is answered by its one entry, in the state before it
 abbrev pub entry_reply : MachineParts → MachineState → What → Option Answer
 entry_reply parts state (whats.Getcube dim sub) = Some (getcube_reply sub)
 entry_reply parts state whats.Peek = Some (answers.Peeked (peek_result parts state))
-entry_reply parts state (whats.Spawn pid image to fresh) = Some (if fresh then answers.Ok else answers.Used)
+entry_reply parts state (whats.Spawn pid image to fresh) =
+    Some (if fresh then answers.Ok else answers.Used)
 entry_reply parts state (whats.Kill pid to found) = Some (kill_reply found)
 entry_reply parts state (whats.Send pid first to bytes) = Some answers.Ok
 entry_reply parts state other = None
 
 -- what a command is answered by what its host hears
-abbrev pub heard_reply : Hearing → Option Answer
-heard_reply (hearing.Posted batch) = Some answers.Ok
-heard_reply hearing.Spawned = Some answers.Ok
-heard_reply hearing.Used = Some answers.Used
-heard_reply hearing.Killed = Some answers.Ok
-heard_reply hearing.Unused = Some answers.Unused
-heard_reply hearing.Already = Some answers.Already
-heard_reply other = None
+abbrev pub hearing_reply : Hearing → Option Answer
+hearing_reply (hearings.Posted batch) = Some answers.Ok
+hearing_reply hearings.Spawned = Some answers.Ok
+hearing_reply hearings.Used = Some answers.Used
+hearing_reply hearings.Killed = Some answers.Ok
+hearing_reply hearings.Unused = Some answers.Unused
+hearing_reply hearings.Already = Some answers.Already
+hearing_reply other = None
 
 -- behind a history a user's host asks for this, and the machine makes this entry of it
-pub record IsAsked (parts : MachineParts) (history : List Entry) (user : ℕ) (request : Request) (what : What) : Type 0 where
+pub record IsMadeByRequest (parts : MachineParts) (history : List Entry) (user : ℕ)
+    (request : Request) (what : What) : Type 0 where
   pub fits : IsFitting parts history user HOST request
   pub answer : what_of_request parts (after history) user HOST request ≡ Some what

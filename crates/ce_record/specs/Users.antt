@@ -12,8 +12,10 @@ use Rattle.ce_script.specs.Doings.{Doing, AreDoings, AreRefusedExactly}
 abbrev pub command_with_answer : Doing → Command × Answer
 command_with_answer doing = (doing.command, doing.answer)
 
--- All that a user did so far in this history: each command did, was answered and was refused as it must be behind those before it.
-pub record HasDoneSoFar (kind : RoundKind) (machine : MachineParts) (user : ℕ) (history : List Entry) (doings : List Doing) : Type 0 where
+-- All that a user did so far in this history: each command did, was answered and was refused as it
+-- must be behind those before it.
+pub record HasDoneSoFar (kind : RoundKind) (machine : MachineParts) (user : ℕ)
+    (history : List Entry) (doings : List Doing) : Type 0 where
   pub does : AreDoings kind machine history user (map command_with_answer doings) doings
   pub refused : AreRefusedExactly machine doings
 
@@ -21,9 +23,14 @@ pub record HasDoneSoFar (kind : RoundKind) (machine : MachineParts) (user : ℕ)
 
 -- the user's moments among those of these entries, by which the history goes on
 abbrev pub own_moments : ℕ → List Entry → List Entry → List Moment
-own_moments user history between = filter (λ moment. moment.entry.user == user) (later_moments history between)
+own_moments user history further_entries =
+    filter (λ moment. moment.entry.user == user) (later_moments history further_entries)
 
 -- a command with its answer, whose entries are the user's of these
-abbrev pub doing_amid : ℕ → List Entry → Command → Answer → List Entry → Doing
-doing_amid user history command answer between =
-    record { command = command; answer = answer; moments = own_moments user history between }
+abbrev pub own_doing : ℕ → List Entry → Command → Answer → List Entry → Doing
+own_doing user history command answer further_entries =
+    record {
+      command = command;
+      answer = answer;
+      moments = own_moments user history further_entries;
+    }

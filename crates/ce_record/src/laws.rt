@@ -1,13 +1,14 @@
-//! The laws of the record that a run leaves. The functions do nothing: a contract is the law, which proofs cite.
+//! The laws of the record that a run leaves. The functions do nothing: a contract is the law, which
+//! proofs cite.
 ghost use Rattle.ce_record.specs.Laws.{HoldingsAreTheMachines, HoldingsFollowDoings, RunBegins, RunGoesOn, RepliesBegin, RepliesGoOn, UserBegins, UserWaits, UserGoesOn, ScriptHasMachine, RunIsLegal, UsersAreLegal, NoUserIsLegal, NoCubeIsNext, RefusalOfHolderIsNext, NoPlaceIsNext, NoStoreIsNext, DumpIsNext, TraceIsNext, FreecubeIsNext, RequestsAreNext, HearingsAreReplies, OthersStay, CubeBegins, TraceGoesOn, CubeStays, RunIsNext, RecvIsNext, MessageIsSent};
 
 /// What a user holds by its own entries of a lawful history is what the machine says.
-pub fn held_is_held_law()
+pub fn holdings_are_the_machines_law()
     ensures law { HoldingsAreTheMachines }
 {}
 
 /// What a user holds by all that it did is what the machine says.
-pub fn held_after_law()
+pub fn holdings_follow_doings_law()
     ensures law { HoldingsFollowDoings }
 {}
 
@@ -56,8 +57,8 @@ pub fn run_is_legal_law()
     ensures law { RunIsLegal }
 {}
 
-/// The record of a script with a user is legal, where its history is lawful and each user did all its commands in it
-/// and was answered so.
+/// The record of a script with a user is legal, where its history is lawful and each user did all
+/// its commands in it and was answered so.
 pub fn users_are_legal_law()
     ensures law { UsersAreLegal }
 {}
@@ -73,7 +74,7 @@ pub fn no_cube_law()
 {}
 
 /// A getcube is told that its user holds a cube already.
-pub fn held_law()
+pub fn refusal_of_holder_law()
     ensures law { RefusalOfHolderIsNext }
 {}
 
@@ -103,12 +104,12 @@ pub fn freecube_law()
 {}
 
 /// A command that makes one entry is told what the machine answers.
-pub fn asked_law()
+pub fn requests_law()
     ensures law { RequestsAreNext }
 {}
 
 /// A send, a spawn or a kill is answered by what its host hears.
-pub fn heard_is_reply_law()
+pub fn hearings_are_replies_law()
     ensures law { HearingsAreReplies }
 {}
 

@@ -12,7 +12,7 @@ use Rattle.ce_model.specs.Node.{take_call, send_call, spawn_call, kill_call, not
 use Rattle.ce_model.specs.Trace.{sent_items, taken_results, waiting_items, spawned_ids, killed_ids, mark, allowed_dispatches, made_dispatches, parcels}
 use Rattle.ce_model.specs.Answers.{is_quiet, answer}
 use Rattle.ce_model.specs.Cube.{state, hoststore, next_entry}
-use Rattle.ce_model.specs.Subcubes.{extract, relative_number, deposit, subcubes, first_free}
+use Rattle.ce_model.specs.Subcubes.{extract, relative_number, deposit, subcubes, first_free_subcube}
 use Rattle.ce_model.specs.Views.{view}
 use Rattle.ce_model.specs.Machine.{after}
 use Rattle.ce_rows.specs.declared.worked.WorkedRow.TheVariants.{Hearings}
@@ -20,5 +20,5 @@ use Rattle.ce_rows.specs.RowEntries.{AreRowEntries}
 use Rattle.ce_rows.specs.Rows.{row_of, place_0, block, first_bytes}
 
 pub hearings-entries : AreRowEntries (row_of Hearings)
-unfolding says turn_saying exec effect_of dec table number_at kernel kernel_calls access_site block_named window_count window_base window_size greatest_targets turn_instructions turn_calls node_after_hearing after view relative_number extract deposit subcubes first_free next_entry state hoststore sent_items taken_results waiting_items spawned_ids killed_ids mark allowed_dispatches made_dispatches parcels is_quiet answer greatest_dim greatest_count block_room process_count home_blocks host_home
+unfolding says turn_saying exec effect_of dec table number_at kernel kernel_calls access_site block_named window_count window_base window_size greatest_targets turn_instructions turn_calls node_after_hearing after view relative_number extract deposit subcubes first_free_subcube next_entry state hoststore sent_items taken_results waiting_items spawned_ids killed_ids mark allowed_dispatches made_dispatches parcels is_quiet answer greatest_dim greatest_count block_room process_count home_blocks host_home
 hearings-entries = (record { fits = (lit< tt, (refl, lit≤ tt, refl)); answer = refl }, (record { fits = (lit< tt, record { inner = spawn_call 0 0 place_0; inside = inl refl; next = refl; renamed = refl; within = λ host. tt; not_drained = refl }); answer = refl }, (record { fits = (lit< tt, record { inner = arm_call 10; inside = inl refl; next = refl; renamed = refl; within = λ host. lit≤ tt; not_drained = refl }); answer = refl }, (record { fits = (lit< tt, record { inner = take_call 0 0 None; inside = inr refl; next = refl; renamed = refl; within = λ host. tt; not_drained = refl }); answer = refl }, (record { fits = (lit< tt, record { inner = note_call 0 42; inside = inr refl; next = refl; renamed = refl; within = λ host. tt; not_drained = refl }); answer = refl }, (record { fits = (lit< tt, record { inner = send_call 0 ((host_place, block 0 0) ∷ []) (0 ∷ []); inside = inr refl; next = refl; renamed = refl; within = λ host. lit≤ tt; not_drained = refl }); answer = refl }, (record { fits = (lit< tt, record { inner = take_call 1 0 (Some 0); inside = inr refl; next = refl; renamed = refl; within = λ host. tt; not_drained = refl }); answer = refl }, (record { fits = (lit< tt, record { inner = send_call 0 ((place_0, block 256 0) ∷ []) first_bytes; inside = inl refl; next = refl; renamed = refl; within = λ host. lit≤ tt; not_drained = refl }); answer = refl }, (record { fits = (lit< tt, record { inner = take_call 1 0 (Some 0); inside = inr refl; next = refl; renamed = refl; within = λ host. tt; not_drained = refl }); answer = refl }, (record { fits = (lit< tt, record { inner = mail_call; inside = inl refl; next = refl; renamed = refl; within = λ host. tt; not_drained = refl }); answer = refl }, (record { fits = (lit< tt, record { inner = kill_call 0 place_0; inside = inl refl; next = refl; renamed = refl; within = λ host. tt; not_drained = refl }); answer = refl }, (record { fits = (lit< tt, record { inner = take_call 1 0 (Some 0); inside = inr refl; next = refl; renamed = refl; within = λ host. tt; not_drained = refl }); answer = refl }, (record { fits = (lit< tt, record { inner = take_call 0 1 None; inside = inr refl; next = refl; renamed = refl; within = λ host. tt; not_drained = refl }); answer = refl }, tt)))))))))))))

@@ -11,7 +11,7 @@ use Rattle.ce_machine.specs.declared.call.Reply.{Reply}
 use Rattle.ce_machine.specs.Requests.{request_of, HasBroughtBoxes, IsFittingCall}
 use Rattle.ce_machine.specs.Replies.{IsReplyTo}
 use Rattle.ce_machine.specs.Meanings.{MachineFacts, IsAnsweredBy, whose}
-use Rattle.ce_rows.specs.RowEntries.{RowEntry, Row, history_of, IsRowEntry, AreRowEntries, IsAt, IsNextCall, IsNextReply}
+use Rattle.ce_rows.specs.RowEntries.{RowEntry, Row, history_of, IsRowEntry, AreRowEntries, HasMadeRowEntries, IsNextRowCall, IsNextRowReply}
 
 -- what holds of each member behind those before it holds of the one behind the first so many
 holds-at : {X : Type 0} (P : List X → X → Type 0) (before behind : List X) (count : ℕ) (x : X) → EachAfter P before behind → slice_get behind count ≡ Some x
@@ -30,20 +30,20 @@ one-more (y ∷ xs) zero x e = let same : y ≡ x = cc in ap (λ y. y ∷ []) sa
 one-more (y ∷ xs) (suc count) x e = ap (λ xs. y ∷ xs) (one-more xs count x e)
 
 -- the row's next entry, and that the call is its
-pub record IsNext {N : Type 0} (row : Row) (count : ℕ) (who : Who) (call : Call N) : Type 0 where
+pub record IsNextRowEntry {N : Type 0} (row : Row) (count : ℕ) (who : Who) (call : Call N) : Type 0 where
   pub row_entry : RowEntry
   pub there : slice_get row.entries count ≡ Some row_entry
   pub who_is : who ≡ whose row_entry.entry
   pub request_is : request_of call ≡ row_entry.request
 
 next_by : {N : Type 0} (row : Row) (count : ℕ) (who : Who) (call : Call N) (found : Option RowEntry) → slice_get row.entries count ≡ found
-    → IsSomeAnd found (λ row_entry. (who ≡ whose row_entry.entry) × (request_of call ≡ row_entry.request)) → IsNext row count who call
+    → IsSomeAnd found (λ row_entry. (who ≡ whose row_entry.entry) × (request_of call ≡ row_entry.request)) → IsNextRowEntry row count who call
 next_by row count who call None e some = absurd some
 next_by row count who call (Some row_entry) e some = record { row_entry = row_entry; there = e; who_is = some.0; request_is = some.1 }
 
-module _ {N : Type 0} (home : N → ℕ) (clean : N → Type 0) (row : Row) (machine : IsMachine row.parts) (all : AreRowEntries row) (count : ℕ) (m : MachineFacts) (at : IsAt row count m)
-    (who : Who) (call : Call N) (is : IsNextCall row count who call) where
-  next : IsNext row count who call
+module _ {N : Type 0} (home : N → ℕ) (clean : N → Type 0) (row : Row) (machine : IsMachine row.parts) (all : AreRowEntries row) (count : ℕ) (m : MachineFacts) (at : HasMadeRowEntries row count m)
+    (who : Who) (call : Call N) (is : IsNextRowCall row count who call) where
+  next : IsNextRowEntry row count who call
   next = next_by row count who call (slice_get row.entries count) refl is
 
   row_entry_is : IsRowEntry row.parts (take count row.entries) next.row_entry
@@ -76,7 +76,7 @@ module _ {N : Type 0} (home : N → ℕ) (clean : N → Type 0) (row : Row) (mac
         λ i. record { user = (by i).family; actor = (by i).actor; what = what-is i }
 
     -- the machine stands behind one entry more
-    pub next-at : IsAt row (count + 1) m'
+    pub next-at : HasMadeRowEntries row (count + 1) m'
     next-at = record {
       parts_are = fixed ∙ at.parts_are;
       history_is = grows ∙ (λ i. at.history_is i ++ added-is i ∷ [])
@@ -85,7 +85,7 @@ module _ {N : Type 0} (home : N → ℕ) (clean : N → Type 0) (row : Row) (mac
     }
 
     -- and the reply is the entry's
-    pub next-reply : IsNextReply home clean row count reply
+    pub next-reply : IsNextRowReply home clean row count reply
     next-reply =
         let here : IsReplyTo home clean row.parts (after m.history) who.family who.actor added.what reply =
         subst (λ (parts : MachineParts). IsReplyTo home clean parts (after m.history) who.family who.actor added.what reply) at.parts_are stands.reply_is in

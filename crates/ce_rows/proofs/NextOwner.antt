@@ -6,7 +6,7 @@ use Rattle.ce_model.specs.Saying.{says}
 use Rattle.ce_model.specs.Trace.{sent_items, taken_results, waiting_items, spawned_ids, killed_ids, mark, allowed_dispatches, made_dispatches, parcels}
 use Rattle.ce_model.specs.Answers.{answer}
 use Rattle.ce_model.specs.Cube.{state, hoststore, next_entry}
-use Rattle.ce_model.specs.Subcubes.{extract, relative_number, deposit, subcubes, first_free}
+use Rattle.ce_model.specs.Subcubes.{extract, relative_number, deposit, subcubes, first_free_subcube}
 use Rattle.ce_model.specs.Views.{view}
 use Rattle.ce_model.specs.Machine.{after}
 use Rattle.ce_model.proofs.Rows.SixEntries as model
@@ -24,7 +24,7 @@ unfolding says process_count
 asks = refl
 
 pub next_owner-entries : AreRowEntries (row_of NextOwner)
-unfolding after view relative_number extract deposit subcubes first_free next_entry state hoststore sent_items taken_results waiting_items spawned_ids killed_ids mark allowed_dispatches made_dispatches parcels answer greatest_dim block_room process_count home_blocks host_home
+unfolding after view relative_number extract deposit subcubes first_free_subcube next_entry state hoststore sent_items taken_results waiting_items spawned_ids killed_ids mark allowed_dispatches made_dispatches parcels answer greatest_dim block_room process_count home_blocks host_home
 next_owner-entries = (
   record { fits = (lit< tt, (refl, lit≤ tt, refl)); answer = refl },
   (

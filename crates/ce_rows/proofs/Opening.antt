@@ -14,7 +14,7 @@ use Rattle.ce_machine.specs.declared.call.Reply.TheVariants.{Granted}
 use Rattle.ce_machine.specs.Requests.{HasBroughtBoxes}
 use Rattle.ce_rows.specs.declared.worked.WorkedRow.{WorkedRow}
 use Rattle.ce_rows.specs.declared.worked.WorkedRow.TheVariants.{FirstCube, GreatestCube, NextOwner, Replies, Hearings, WaitingMail}
-use Rattle.ce_rows.specs.RowEntries.{history_of, IsNextReply}
+use Rattle.ce_rows.specs.RowEntries.{history_of, IsNextRowReply}
 use Rattle.ce_rows.specs.Rows.{row_of, program, next_owner, node_0}
 
 images-are : (row : WorkedRow) → (row_of row).parts.images ≡ image_parts PRIVATE_START program 0 ∷ []
@@ -33,7 +33,7 @@ parts-are row dim users images dim_is users_is images_is =
 
 module _ {N : Type 0} (home : N → ℕ) (clean : N → Type 0) (boxes : Vec N) where
   -- the boxes that the first cube gets
-  pub granted-boxes : (grant : Grant) → IsNextReply home clean (row_of NextOwner) 0 (Granted grant boxes) → AreBoxes home clean 1 (node_of node_0) boxes.items
+  pub granted-boxes : (grant : Grant) → IsNextRowReply home clean (row_of NextOwner) 0 (Granted grant boxes) → AreBoxes home clean 1 (node_of node_0) boxes.items
   granted-boxes grant is = is.1
 
   -- are those that it gives back

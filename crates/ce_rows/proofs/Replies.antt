@@ -5,7 +5,7 @@ use Rattle.ce_model.specs.Node.{take_call, send_call, spawn_call, kill_call, arm
 use Rattle.ce_model.specs.Trace.{sent_items, taken_results, waiting_items, spawned_ids, killed_ids, mark, allowed_dispatches, made_dispatches, parcels}
 use Rattle.ce_model.specs.Answers.{is_quiet, answer}
 use Rattle.ce_model.specs.Cube.{state, hoststore, next_entry}
-use Rattle.ce_model.specs.Subcubes.{extract, relative_number, deposit, subcubes, first_free}
+use Rattle.ce_model.specs.Subcubes.{extract, relative_number, deposit, subcubes, first_free_subcube}
 use Rattle.ce_model.specs.Views.{view}
 use Rattle.ce_model.specs.Machine.{after}
 use Rattle.ce_rows.specs.declared.worked.WorkedRow.TheVariants.{Replies}
@@ -15,7 +15,7 @@ use Rattle.ce_model.specs.Saying.{says}
 use Rattle.ce_model.specs.Hearing.{node_after_hearing}
 
 pub replies-entries : AreRowEntries (row_of Replies)
-unfolding says node_after_hearing after view relative_number extract deposit subcubes first_free next_entry state hoststore sent_items taken_results waiting_items spawned_ids killed_ids mark allowed_dispatches made_dispatches parcels is_quiet answer greatest_dim greatest_count block_room process_count home_blocks host_home
+unfolding says node_after_hearing after view relative_number extract deposit subcubes first_free_subcube next_entry state hoststore sent_items taken_results waiting_items spawned_ids killed_ids mark allowed_dispatches made_dispatches parcels is_quiet answer greatest_dim greatest_count block_room process_count home_blocks host_home
 replies-entries = (
   record { fits = (lit< tt, refl); answer = refl },
   (

@@ -25,29 +25,36 @@ abbrev pub history_of : List RowEntry → List Entry
 history_of entries = map (λ row_entry. row_entry.entry) entries
 
 -- the entry is one that the machine allows behind these
-pub record IsRowEntry (parts : MachineParts) (before : List RowEntry) (row_entry : RowEntry) : Type 0 where
-  pub fits : IsFitting parts (history_of before) row_entry.entry.user row_entry.entry.actor row_entry.request
-  pub answer : what_of_request parts (after (history_of before)) row_entry.entry.user row_entry.entry.actor row_entry.request ≡ Some row_entry.entry.what
+pub record IsRowEntry (parts : MachineParts) (earlier_entries : List RowEntry)
+    (row_entry : RowEntry) : Type 0 where
+  pub fits : IsFitting parts
+      (history_of earlier_entries) row_entry.entry.user row_entry.entry.actor row_entry.request
+  pub answer : what_of_request parts
+      (after (history_of earlier_entries)) row_entry.entry.user row_entry.entry.actor row_entry.request ≡ Some row_entry.entry.what
 
 -- the machine allows the row
 abbrev pub AreRowEntries : Row → Type 0
 AreRowEntries row = EachAfter (IsRowEntry row.parts) [] row.entries
 
 -- the machine has made the first so many entries of the row
-pub record IsAt (row : Row) (count : ℕ) (machine : MachineFacts) : Type 0 where
+pub record HasMadeRowEntries (row : Row) (count : ℕ) (machine : MachineFacts) : Type 0 where
   pub parts_are : machine.parts ≡ row.parts
   pub history_is : machine.history ≡ history_of (take count row.entries)
 
 -- the call is the one of the row's entry behind the first so many
-abbrev pub IsNextCall : {N : Type 0} → Row → ℕ → Who → Call N → Type 0
-IsNextCall row count who call = IsSomeAnd (slice_get row.entries count) (λ row_entry. (who ≡ whose row_entry.entry) × (request_of call ≡ row_entry.request))
+abbrev pub IsNextRowCall : {N : Type 0} → Row → ℕ → Who → Call N → Type 0
+IsNextRowCall row count who call = IsSomeAnd (slice_get row.entries count)
+    (λ row_entry. (who ≡ whose row_entry.entry) × (request_of call ≡ row_entry.request))
 
 -- the reply is the one of that entry
-abbrev pub IsNextReply : {N : Type 0} → (N → ℕ) → (N → Type 0) → Row → ℕ → Reply N → Type 0
-IsNextReply home clean row count reply =
-    IsSomeAnd (slice_get row.entries count) (λ row_entry. IsReplyTo home clean row.parts (after (history_of (take count row.entries))) row_entry.entry.user row_entry.entry.actor row_entry.entry.what reply)
+abbrev pub IsNextRowReply : {N : Type 0} → (N → ℕ) → (N → Type 0) → Row → ℕ → Reply N → Type 0
+IsNextRowReply home clean row count reply =
+    IsSomeAnd (slice_get row.entries count)
+    (λ row_entry. IsReplyTo home clean row.parts
+    (after (history_of
+    (take count row.entries))) row_entry.entry.user row_entry.entry.actor row_entry.entry.what reply)
 
 -- a call with which nobody brings boxes
-abbrev pub IsWithoutBoxes : {N : Type 0} → Call N → Type 0
-IsWithoutBoxes (Freecube boxes) = ⊥
-IsWithoutBoxes other = Unit {0}
+abbrev pub IsCallWithoutBoxes : {N : Type 0} → Call N → Type 0
+IsCallWithoutBoxes (Freecube boxes) = ⊥
+IsCallWithoutBoxes other = Unit {0}

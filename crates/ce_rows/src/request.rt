@@ -1,6 +1,6 @@
 ghost use Rattle.std.specs.Prelude.{◌+◌, IfOk};
 ghost use Rattle.ce_machine.specs.Requests.{HasBroughtBoxes};
-ghost use Rattle.ce_rows.specs.RowEntries.{IsAt, IsNextCall, IsNextReply};
+ghost use Rattle.ce_rows.specs.RowEntries.{HasMadeRowEntries, IsNextRowCall, IsNextRowReply};
 ghost use Rattle.ce_rows.specs.Rows.{row_of};
 
 use crate::WorkedRow;
@@ -12,20 +12,20 @@ use std::alloc::Global;
 
 /// What the machine answers to the call of a worked row that comes behind its first `count` ones.
 pub fn ask<N: Homed>(
-    shared: &mut Machine<N>,
+    machine: &mut Machine<N>,
     alloc: Global,
     row: WorkedRow,
     count: usize,
     who: Who,
     call: Call<N>,
 ) -> Result<Reply<N>, NoMemory>
-    requires at { IsAt (row_of row) count shared.old }
-    requires next { IsNextCall (row_of row) count who call }
-    requires boxes { HasBroughtBoxes N.home N.clean shared.old.history who.family call }
-    ensures at { IfOk result (λ _. IsAt (row_of row) (count + 1) shared.new) }
-    ensures reply { IfOk result (λ reply. IsNextReply N.home N.clean (row_of row) count reply) }
+    requires at { HasMadeRowEntries (row_of row) count machine.old }
+    requires next { IsNextRowCall (row_of row) count who call }
+    requires boxes { HasBroughtBoxes N.home N.clean machine.old.history who.family call }
+    ensures at { IfOk result (λ _. HasMadeRowEntries (row_of row) (count + 1) machine.new) }
+    ensures reply { IfOk result (λ reply. IsNextRowReply N.home N.clean (row_of row) count reply) }
 {
-    match shared.act(alloc, who, call) {
+    match machine.act(alloc, who, call) {
         Ok(reply) => Ok(reply),
         Err((_, error)) => Err(error),
     }

@@ -5,7 +5,8 @@ pub enum WorkedRow {
     FirstCube,
     /// The whole of the greatest machine is granted.
     GreatestCube,
-    /// A message waits in a node when its cube is given back, and the next owner of the node finds nothing.
+    /// A message waits in a node when its cube is given back, and the next owner of the node finds
+    /// nothing.
     NextOwner,
     /// Each reply that a machine gives whose nodes run no process.
     Replies,

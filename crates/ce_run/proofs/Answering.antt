@@ -15,12 +15,12 @@ use Rattle.ce_model.specs.Cube.{opening, parcel_numbered}
 use Rattle.ce_model.specs.Renaming.{CubeGrant, entry_inward}
 use Rattle.ce_model.specs.Views.{view}
 use Rattle.ce_model.specs.Machine.{MachineParts, HeldCube, cube_of}
-use Rattle.ce_model.specs.Literals.{of_host}
+use Rattle.ce_model.specs.Literals.{host_entry}
 use Rattle.ce_solo.proofs.Lists.{all-append}
 use Rattle.ce_daemon.specs.declared.grant.Grant.{Grant}
 use Rattle.ce_machine.specs.Meanings.{MachineFacts}
 use Rattle.ce_cube.specs.Boxes.{IsHeldAs}
-use Rattle.ce_cube.specs.Crews.{IsLawfulMachine, IsCrewInStep, HasGoneOn, HasMadeRound, box_at, CrewFacts, HasMadeSerialRound}
+use Rattle.ce_cube.specs.Crews.{IsLawfulMachine, IsCrewInStep, HasCrewGoneOn, HasMadeRound, box_at, CrewFacts, HasMadeSerialRound}
 use Rattle.ce_daemon.specs.Peeks.{cube_grant}
 use Rattle.ce_cube.proofs.Counts.{boxes_in_step-end-turns}
 use Rattle.ce_cube.proofs.Crewing.{still-sound, gone-both, stands-still}
@@ -39,8 +39,8 @@ use Rattle.ce_record.proofs.Running.{run, recv}
 use Rattle.ce_record.proofs.Turns.{work-inward}
 use Rattle.ce_run.specs.Rounds.{HasAllowed, HasLooked, HasTakenNone, HasTaken, HasRunRounds}
 use Rattle.ce_run.specs.UserStates.{HasDone, own_crew}
-use Rattle.ce_run.proofs.Going.{IsOwnRound, IsCrewResting, left_to, by-grant, all-by-grant, round-of, left-behind, rests-on, left-on}
-use Rattle.ce_cube.proofs.Looks.{IsAtRest, rests-behind, found-resting}
+use Rattle.ce_run.proofs.Going.{IsOwnRound, IsCrewResting, crew_dispatches_left, by-grant, all-by-grant, round-of, left-behind, rests-on, left-on}
+use Rattle.ce_cube.proofs.Looks.{IsCubeAtRest, rests-behind, found-resting}
 use Rattle.ce_run.proofs.StatesBehind.{done-by}
 
 -- ---- the end of a command with rounds
@@ -51,7 +51,7 @@ turns-over : (m : MachineFacts) (crew : CrewFacts) → IsCrewInStep m.parts m.hi
 turns-over m crew step = boxes_in_step-end-turns m.parts m.history crew.grant.number (cube_grant crew.grant) (λ r. (box_at crew.boxes r).node) step.boxes.in_step
 
 module _ (kind : RoundKind) (before behind : MachineFacts) (crew crew' : CrewFacts) (made : List Entry) (sound : IsLawfulMachine before)
-    (step : IsCrewInStep before.parts before.history crew) (on : HasGoneOn kind before behind crew crew' made) where
+    (step : IsCrewInStep before.parts before.history crew) (on : HasCrewGoneOn kind before behind crew crew' made) where
   -- the cube's trace is what its user's entries alone make of it
   trace-made : view (before.history ++ made) step.held.cube.number ≡ view behind.history crew.grant.number
   trace-made =
@@ -91,14 +91,14 @@ module _ (kind : RoundKind) (now behind : MachineFacts) (crew crew' : CrewFacts)
     (step : IsCrewInStep now.parts now.history crew) (looked : HasLooked kind now behind crew crew' found) where
   pub not-busy : IsCrewResting now crew → found ≡ Busy → ⊥
   not-busy rests is =
-      found-resting now.parts now.history crew.grant.number (cube_grant crew.grant) sound.within sound.lawful step.held (of_host crew.grant.user (Look found)) looked.made rests (ap Look is)
+      found-resting now.parts now.history crew.grant.number (cube_grant crew.grant) sound.within sound.lawful step.held (host_entry crew.grant.user (Look found)) looked.made rests (ap Look is)
 
 held-by-grant : (m : MachineFacts) (crew crew' : CrewFacts) → crew'.grant ≡ crew.grant → IsHeldAs m.history crew'.grant.number (cube_grant crew'.grant)
     → IsHeldAs m.history crew.grant.number (cube_grant crew.grant)
 held-by-grant m crew crew' same held = subst (λ (g : Grant). IsHeldAs m.history g.number (cube_grant g)) same held
 
 rests-by-grant : (m : MachineFacts) (crew crew' : CrewFacts) → crew'.grant ≡ crew.grant → IsCrewResting m crew → IsCrewResting m crew'
-rests-by-grant m crew crew' same rests = subst (λ (g : Grant). IsAtRest m.parts m.history g.number (cube_grant g)) (sym same) rests
+rests-by-grant m crew crew' same rests = subst (λ (g : Grant). IsCubeAtRest m.parts m.history g.number (cube_grant g)) (sym same) rests
 
 -- a crew rests behind a round without work
 rests-behind-round : (kind : RoundKind) (now behind : MachineFacts) (crew crew' : CrewFacts) → IsLawfulMachine behind → HasMadeRound kind now behind crew crew' false
@@ -125,24 +125,24 @@ rests-behind-rounds kind before behind crew crew' sound ran =
 
 -- with the user of the crew as it was
 looked-by : (kind : RoundKind) (now behind : MachineFacts) (crew crew' crew'' : CrewFacts) (found : LookResult) → crew'.grant ≡ crew.grant
-    → HasLooked kind now behind crew' crew'' found → HasGoneOn kind now behind crew' crew'' (of_host crew.grant.user (Look found) ∷ [])
+    → HasLooked kind now behind crew' crew'' found → HasCrewGoneOn kind now behind crew' crew'' (host_entry crew.grant.user (Look found) ∷ [])
 looked-by kind now behind crew crew' crew'' found same looked =
-    subst (λ (g : Grant). HasGoneOn kind now behind crew' crew'' (of_host g.user (Look found) ∷ [])) same looked.goes_on
+    subst (λ (g : Grant). HasCrewGoneOn kind now behind crew' crew'' (host_entry g.user (Look found) ∷ [])) same looked.goes_on
 
 module _ (kind : RoundKind) (before armed ran behind : MachineFacts) (crew crew1 crew2 crew3 : CrewFacts) (count : ℕ) (found : LookResult) (answer : Answer)
     (sound : IsLawfulMachine before) (step : IsCrewInStep before.parts before.history crew) (allowed : HasAllowed kind before armed crew crew1 count)
     (rounds : HasRunRounds kind armed ran crew1 crew2) (looked : HasLooked kind ran behind crew2 crew3 found) where
   abbrev run_look : Entry
-  run_look = of_host crew.grant.user (Look found)
+  run_look = host_entry crew.grant.user (Look found)
 
   abbrev run_made : List Entry
-  run_made = of_host crew.grant.user (Arm count) ∷ (joined_lists rounds.rounds ++ (rounds.last ++ run_look ∷ []))
+  run_made = host_entry crew.grant.user (Arm count) ∷ (joined_lists rounds.rounds ++ (rounds.last ++ run_look ∷ []))
 
-  run-on : HasGoneOn kind before behind crew crew3 run_made
+  run-on : HasCrewGoneOn kind before behind crew crew3 run_made
   run-on =
-      let first = gone-both kind before armed ran crew crew1 crew2 (of_host crew.grant.user (Arm count) ∷ []) (joined_lists rounds.rounds ++ rounds.last) allowed rounds.goes_on in
-      subst (λ more. HasGoneOn kind before behind crew crew3 (of_host crew.grant.user (Arm count) ∷ more)) (append_assoc (joined_lists rounds.rounds) rounds.last (run_look ∷ []))
-      (gone-both kind before ran behind crew crew2 crew3 (of_host crew.grant.user (Arm count) ∷ (joined_lists rounds.rounds ++ rounds.last)) (run_look ∷ []) first
+      let first = gone-both kind before armed ran crew crew1 crew2 (host_entry crew.grant.user (Arm count) ∷ []) (joined_lists rounds.rounds ++ rounds.last) allowed rounds.goes_on in
+      subst (λ more. HasCrewGoneOn kind before behind crew crew3 (host_entry crew.grant.user (Arm count) ∷ more)) (append_assoc (joined_lists rounds.rounds) rounds.last (run_look ∷ []))
+      (gone-both kind before ran behind crew crew2 crew3 (host_entry crew.grant.user (Arm count) ∷ (joined_lists rounds.rounds ++ rounds.last)) (run_look ∷ []) first
       (looked-by kind ran behind crew crew2 crew3 found first.grant looked))
 
   pub run-done : run_reply found ≡ Some answer → HasDone kind before behind crew.grant.user (Run count) answer (own_crew crew3)
@@ -158,13 +158,14 @@ module _ (kind : RoundKind) (before armed ran behind : MachineFacts) (crew crew1
 -- ---- `recv`
 
 -- the looks for a message that found none, each with the round behind it
-abbrev pub looks_for : ℕ → List (List Entry) → List Entry
-looks_for user rounds = flat_map (λ round. host_take user None ∷ round) rounds
+abbrev pub look_entries : ℕ → List (List Entry) → List Entry
+look_entries user rounds = flat_map (λ round. host_take user None ∷ round) rounds
 
--- what was made so far: rounds with work, each behind a look, and so the round without work, where there is one
-abbrev pub waited : Bool → ℕ → List (List Entry) → List Entry → List Entry
-waited true user rounds last = looks_for user rounds
-waited false user rounds last = looks_for user rounds ++ host_take user None ∷ last
+-- what was made so far: rounds with work, each behind a look, and so the round without work, where
+-- there is one
+abbrev pub waiting_entries : Bool → ℕ → List (List Entry) → List Entry → List Entry
+waiting_entries true user rounds last = look_entries user rounds
+waiting_entries false user rounds last = look_entries user rounds ++ host_take user None ∷ last
 
 -- by the last round no node was given work, and the cube rests
 abbrev pub IsLastRound : RoundKind → Bool → MachineFacts → CrewFacts → CrewFacts → List Entry → Type 0
@@ -172,32 +173,32 @@ IsLastRound kind true now crew crew' last = Unit {0}
 IsLastRound kind false now crew crew' last = IsOwnRound kind crew false last × IsCrewResting now crew'
 
 -- A crew's host found no message so far; nodes have work still, or the last round was without.
-pub record HasWaited (kind : RoundKind) (before now : MachineFacts) (crew crew' : CrewFacts) (working : Bool) : Type 0 where
+pub record HasWaited (kind : RoundKind) (before now : MachineFacts) (crew crew' : CrewFacts) (has_work : Bool) : Type 0 where
   pub rounds : List (List Entry)
   pub last : List Entry
-  pub goes_on : HasGoneOn kind before now crew crew' (waited working crew.grant.user rounds last)
+  pub goes_on : HasCrewGoneOn kind before now crew crew' (waiting_entries has_work crew.grant.user rounds last)
   pub with_work : AllByRecursion (IsOwnRound kind crew true) rounds
-  pub without_work : IsLastRound kind working now crew crew' last
+  pub without_work : IsLastRound kind has_work now crew crew' last
 
 -- how many rounds may come at most
 abbrev pub rounds_left : Bool → MachineFacts → CrewFacts → ℕ
-rounds_left working m crew = left_to m crew + (if working then 1 else 0)
+rounds_left has_work m crew = crew_dispatches_left m crew + (if has_work then 1 else 0)
 
 pub waits-first : (kind : RoundKind) (m : MachineFacts) (crew : CrewFacts) → IsLawfulMachine m → IsCrewInStep m.parts m.history crew → HasWaited kind m m crew crew true
 waits-first kind m crew sound step = record { rounds = []; last = []; goes_on = stands-still kind m crew sound step; with_work = tt; without_work = tt }
 
 -- no message was there, with the user of the crew as it was
 none-by : (kind : RoundKind) (now behind : MachineFacts) (crew crew' crew'' : CrewFacts) → crew'.grant ≡ crew.grant → HasTakenNone kind now behind crew' crew''
-    → HasGoneOn kind now behind crew' crew'' (host_take crew.grant.user None ∷ [])
-none-by kind now behind crew crew' crew'' same none = subst (λ (g : Grant). HasGoneOn kind now behind crew' crew'' (host_take g.user None ∷ [])) same none
+    → HasCrewGoneOn kind now behind crew' crew'' (host_take crew.grant.user None ∷ [])
+none-by kind now behind crew crew' crew'' same none = subst (λ (g : Grant). HasCrewGoneOn kind now behind crew' crew'' (host_take g.user None ∷ [])) same none
 
 -- a round behind a look that found none
 module _ (kind : RoundKind) (before now taken behind : MachineFacts) (crew crew1 crew2 crew3 : CrewFacts) (sound : IsLawfulMachine before)
     (so_far : HasWaited kind before now crew crew1 true) (none : HasTakenNone kind now taken crew1 crew2) where
   round-on : (work : Bool) (made : HasMadeRound kind taken behind crew2 crew3 work)
-      → HasGoneOn kind before behind crew crew3 (looks_for crew.grant.user so_far.rounds ++ host_take crew.grant.user None ∷ made.round)
+      → HasCrewGoneOn kind before behind crew crew3 (look_entries crew.grant.user so_far.rounds ++ host_take crew.grant.user None ∷ made.round)
   round-on work made =
-      gone-both kind before now behind crew crew1 crew3 (looks_for crew.grant.user so_far.rounds) (host_take crew.grant.user None ∷ made.round) so_far.goes_on
+      gone-both kind before now behind crew crew1 crew3 (look_entries crew.grant.user so_far.rounds) (host_take crew.grant.user None ∷ made.round) so_far.goes_on
       (gone-both kind now taken behind crew1 crew2 crew3 (host_take crew.grant.user None ∷ []) made.round (none-by kind now taken crew crew1 crew2 so_far.goes_on.grant none) made.goes_on)
 
   own-round : (work : Bool) (made : HasMadeRound kind taken behind crew2 crew3 work) → IsOwnRound kind crew work made.round
@@ -207,7 +208,7 @@ module _ (kind : RoundKind) (before now taken behind : MachineFacts) (crew crew1
   waits-on true made = record {
     rounds = so_far.rounds ++ made.round ∷ [];
     last = [];
-    goes_on = subst (HasGoneOn kind before behind crew crew3) (sym (flat-last (λ round. host_take crew.grant.user None ∷ round) so_far.rounds made.round)) (round-on true made);
+    goes_on = subst (HasCrewGoneOn kind before behind crew crew3) (sym (flat-last (λ round. host_take crew.grant.user None ∷ round) so_far.rounds made.round)) (round-on true made);
     with_work = all-append (IsOwnRound kind crew true) so_far.rounds (made.round ∷ []) so_far.with_work (own-round true made, tt);
     without_work = tt;
   }
@@ -227,7 +228,7 @@ waits-shorter before now taken behind crew crew1 crew2 crew3 sound so_far none s
     omega (
       arith,
       left-behind taken behind crew2 crew3 work made,
-      left-on serial now taken crew1 crew2 (still-sound serial before now crew crew1 (looks_for crew.grant.user so_far.rounds) sound so_far.goes_on) step none,
+      left-on serial now taken crew1 crew2 (still-sound serial before now crew crew1 (look_entries crew.grant.user so_far.rounds) sound so_far.goes_on) step none,
     )
 
 -- what the look for a message came to
@@ -247,7 +248,7 @@ took-none kind now behind crew crew' found is looked = subst (HasLookedFor kind 
 pub none-not-busy : (kind : RoundKind) (armed now taken behind : MachineFacts) (crew crew1 crew2 crew3 : CrewFacts) (found : LookResult) → IsLawfulMachine armed
     → HasWaited kind armed now crew crew1 false → HasTakenNone kind now taken crew1 crew2 → HasLooked kind taken behind crew2 crew3 found → found ≡ Busy → ⊥
 none-not-busy kind armed now taken behind crew crew1 crew2 crew3 found sound so_far none looked =
-    let now_sound = still-sound kind armed now crew crew1 (waited false crew.grant.user so_far.rounds so_far.last) sound so_far.goes_on in
+    let now_sound = still-sound kind armed now crew crew1 (waiting_entries false crew.grant.user so_far.rounds so_far.last) sound so_far.goes_on in
     not-busy kind taken behind crew2 crew3 found (still-sound kind now taken crew1 crew2 (host_take crew1.grant.user None ∷ []) now_sound none) none.in_step looked
     (rests-on kind now taken crew1 crew2 now_sound so_far.goes_on.in_step none so_far.without_work.1)
 
@@ -256,18 +257,18 @@ abbrev message_end : Bool → List Entry → ℕ → RecvEnd
 message_end true last number = message_next number
 message_end false last number = message_behind_rest last number
 
-message-entries : (working : Bool) (user : ℕ) (rounds : List (List Entry)) (last : List Entry) (number : ℕ)
-    → waited working user rounds last ++ host_take user (Some number) ∷ [] ≡ looks_for user rounds ++ end_entries user (message_end working last number)
+message-entries : (has_work : Bool) (user : ℕ) (rounds : List (List Entry)) (last : List Entry) (number : ℕ)
+    → waiting_entries has_work user rounds last ++ host_take user (Some number) ∷ [] ≡ look_entries user rounds ++ end_entries user (message_end has_work last number)
 message-entries true user rounds last number = refl
-message-entries false user rounds last number = append_assoc (looks_for user rounds) (host_take user None ∷ last) (host_take user (Some number) ∷ [])
+message-entries false user rounds last number = append_assoc (look_entries user rounds) (host_take user None ∷ last) (host_take user (Some number) ∷ [])
 
-message-rounds : (kind : RoundKind) (working : Bool) (now : MachineFacts) (crew crew' : CrewFacts) (last : List Entry) (number : ℕ)
-    → IsLastRound kind working now crew crew' last → AllByRecursion (IsOwnRound kind crew false) (end_rounds (message_end working last number))
+message-rounds : (kind : RoundKind) (has_work : Bool) (now : MachineFacts) (crew crew' : CrewFacts) (last : List Entry) (number : ℕ)
+    → IsLastRound kind has_work now crew crew' last → AllByRecursion (IsOwnRound kind crew false) (end_rounds (message_end has_work last number))
 message-rounds kind true now crew crew' last number is = tt
 message-rounds kind false now crew crew' last number is = (is.0, tt)
 
-message-reply : (working : Bool) (items : List Item) (last : List Entry) (number : ℕ)
-    → recv_reply items (message_end working last number) ≡ message_reply (parcel_numbered number items)
+message-reply : (has_work : Bool) (items : List Item) (last : List Entry) (number : ℕ)
+    → recv_reply items (message_end has_work last number) ≡ message_reply (parcel_numbered number items)
 message-reply true items last number = refl
 message-reply false items last number = refl
 
@@ -277,22 +278,22 @@ module _ (kind : RoundKind) (before armed now : MachineFacts) (crew crew1 crew2 
   user = crew.grant.user
 
   abbrev arm : Entry
-  arm = of_host user (Arm count)
+  arm = host_entry user (Arm count)
 
-  module _ (working : Bool) (so_far : HasWaited kind armed now crew1 crew2 working) where
-    armed-on : HasGoneOn kind before now crew crew2 (arm ∷ waited working user so_far.rounds so_far.last)
+  module _ (has_work : Bool) (so_far : HasWaited kind armed now crew1 crew2 has_work) where
+    armed-on : HasCrewGoneOn kind before now crew crew2 (arm ∷ waiting_entries has_work user so_far.rounds so_far.last)
     armed-on =
-        gone-both kind before armed now crew crew1 crew2 (arm ∷ []) (waited working user so_far.rounds so_far.last) allowed
-        (subst (λ (g : Grant). HasGoneOn kind armed now crew1 crew2 (waited working g.user so_far.rounds so_far.last)) allowed.grant so_far.goes_on)
+        gone-both kind before armed now crew crew1 crew2 (arm ∷ []) (waiting_entries has_work user so_far.rounds so_far.last) allowed
+        (subst (λ (g : Grant). HasCrewGoneOn kind armed now crew1 crew2 (waiting_entries has_work g.user so_far.rounds so_far.last)) allowed.grant so_far.goes_on)
 
     module _ (behind : MachineFacts) (crew3 : CrewFacts) (from : Place) (bytes : List ℕ) (taken : HasTaken kind now behind crew2 crew3 from bytes) where
       abbrev made : List Entry
-      made = arm ∷ (waited working user so_far.rounds so_far.last ++ host_take user (Some taken.number) ∷ [])
+      made = arm ∷ (waiting_entries has_work user so_far.rounds so_far.last ++ host_take user (Some taken.number) ∷ [])
 
-      taken-on : HasGoneOn kind before behind crew crew3 made
+      taken-on : HasCrewGoneOn kind before behind crew crew3 made
       taken-on =
-          gone-both kind before now behind crew crew2 crew3 (arm ∷ waited working user so_far.rounds so_far.last) (host_take user (Some taken.number) ∷ []) armed-on
-          (subst (λ (g : Grant). HasGoneOn kind now behind crew2 crew3 (host_take g.user (Some taken.number) ∷ [])) armed-on.grant taken.goes_on)
+          gone-both kind before now behind crew crew2 crew3 (arm ∷ waiting_entries has_work user so_far.rounds so_far.last) (host_take user (Some taken.number) ∷ []) armed-on
+          (subst (λ (g : Grant). HasCrewGoneOn kind now behind crew2 crew3 (host_take g.user (Some taken.number) ∷ [])) armed-on.grant taken.goes_on)
 
       -- what the host is told, by what was sent to it
       abbrev IsToldIn : MachineParts → CubeGrant → List Entry → Type 0
@@ -303,7 +304,7 @@ module _ (kind : RoundKind) (before armed now : MachineFacts) (crew crew1 crew2 
       told-now =
           let held = armed-on.in_step.held in
           let more = map (entry_inward crew2.grant.sub) (host_take crew2.grant.user (Some taken.number) ∷ []) in
-          let now_sound = still-sound kind before now crew crew2 (arm ∷ waited working user so_far.rounds so_far.last) sound armed-on in
+          let now_sound = still-sound kind before now crew crew2 (arm ∷ waiting_entries has_work user so_far.rounds so_far.last) sound armed-on in
           let waits : parcel_numbered taken.number held.cube.mail ≡ Some taken.parcel =
           subst (λ held. IsSomeAnd held (λ (cube : HeldCube). parcel_numbered taken.number cube.mail ≡ Some taken.parcel)) held.held taken.waited in
           subst (IsToldIn now.parts (cube_grant crew2.grant)) (sym taken.goes_on.trace)
@@ -321,30 +322,30 @@ module _ (kind : RoundKind) (before armed now : MachineFacts) (crew crew1 crew2 
 
       pub message-done : HasDone kind before behind crew.grant.user (Recv count) (Message from bytes) (own_crew crew3)
       message-done =
-          recv-ends kind before behind crew crew3 made sound step taken-on count (message_end working so_far.last taken.number) (Message from bytes) (record {
+          recv-ends kind before behind crew crew3 made sound step taken-on count (message_end has_work so_far.last taken.number) (Message from bytes) (record {
             rounds = so_far.rounds;
             with_work = all-by-grant kind crew crew1 so_far.rounds allowed.grant so_far.with_work;
-            without_work = subst (λ (g : Grant). AllByRecursion (IsRoundOf kind g.user (cube_grant g) false) (end_rounds (message_end working so_far.last taken.number)))
-                allowed.grant (message-rounds kind working now crew1 crew2 so_far.last taken.number so_far.without_work);
-            entries = ap (λ more. arm ∷ more) (message-entries working user so_far.rounds so_far.last taken.number);
-          }) (message-reply working (sent_to_host before.parts step.held.cube (view (before.history ++ made) step.held.cube.number)) so_far.last taken.number ∙ told)
+            without_work = subst (λ (g : Grant). AllByRecursion (IsRoundOf kind g.user (cube_grant g) false) (end_rounds (message_end has_work so_far.last taken.number)))
+                allowed.grant (message-rounds kind has_work now crew1 crew2 so_far.last taken.number so_far.without_work);
+            entries = ap (λ more. arm ∷ more) (message-entries has_work user so_far.rounds so_far.last taken.number);
+          }) (message-reply has_work (sent_to_host before.parts step.held.cube (view (before.history ++ made) step.held.cube.number)) so_far.last taken.number ∙ told)
 
   module _ (so_far : HasWaited kind armed now crew1 crew2 false) (taken behind : MachineFacts) (crew3 crew4 : CrewFacts) (found : LookResult)
       (none : HasTakenNone kind now taken crew2 crew3) (looked : HasLooked kind taken behind crew3 crew4 found) where
     abbrev look : Entry
-    look = of_host user (Look found)
+    look = host_entry user (Look found)
 
     abbrev quiet_made : List Entry
-    quiet_made = arm ∷ (looks_for user so_far.rounds ++ host_take user None ∷ (so_far.last ++ host_take user None ∷ look ∷ []))
+    quiet_made = arm ∷ (look_entries user so_far.rounds ++ host_take user None ∷ (so_far.last ++ host_take user None ∷ look ∷ []))
 
-    quiet-on : HasGoneOn kind before behind crew crew4 quiet_made
+    quiet-on : HasCrewGoneOn kind before behind crew crew4 quiet_made
     quiet-on =
         let first = armed-on false so_far in
         let ends = gone-both kind now taken behind crew2 crew3 crew4 (host_take user None ∷ []) (look ∷ []) (none-by kind now taken crew crew2 crew3 first.grant none)
         (looked-by kind taken behind crew crew3 crew4 found (none.grant ∙ first.grant) looked) in
-        subst (λ more. HasGoneOn kind before behind crew crew4 (arm ∷ more))
-        (append_assoc (looks_for user so_far.rounds) (host_take user None ∷ so_far.last) (host_take user None ∷ look ∷ []))
-        (gone-both kind before now behind crew crew2 crew4 (arm ∷ (looks_for user so_far.rounds ++ host_take user None ∷ so_far.last)) (host_take user None ∷ look ∷ []) first ends)
+        subst (λ more. HasCrewGoneOn kind before behind crew crew4 (arm ∷ more))
+        (append_assoc (look_entries user so_far.rounds) (host_take user None ∷ so_far.last) (host_take user None ∷ look ∷ []))
+        (gone-both kind before now behind crew crew2 crew4 (arm ∷ (look_entries user so_far.rounds ++ host_take user None ∷ so_far.last)) (host_take user None ∷ look ∷ []) first ends)
 
     pub none-done : (answer : Answer) → no_message_reply found ≡ Some answer → HasDone kind before behind crew.grant.user (Recv count) answer (own_crew crew4)
     none-done answer reply =

@@ -27,7 +27,7 @@ module _ (before : MachineFacts) (user : ℕ) (has : HasUser before user) (free 
   pub no-cube-done : (kind : RoundKind) (command : Command) → ((dim : ℕ) → command ≡ Getcube dim → ⊥) → (command ≡ Peek → ⊥)
       → HasDone kind before before user command NoCube (free_host host)
   no-cube-done kind command getcube peek =
-      done-at-once kind before user command NoCube (free_host host) has.book
+      done-at-once kind before user command NoCube (free_host host) has.sound
       (no_cube kind before.parts before.history user command free (wants command getcube peek)) (free, home)
 
 module _ (before : MachineFacts) (crew : CrewFacts) (machine : IsLawfulMachine before) (step : IsCrewInStep before.parts before.history crew) where

@@ -4,7 +4,7 @@ use Rattle.std.specs.Prelude.{IfSome}
 use Rattle.std.specs.Io.KnownBytes.{prepend_known}
 use Rattle.ce_io.specs.Whole.{HasGiven, Reading, Writing, reading, writing}
 use Rattle.ce_words.specs.declared.line.CommandLine.{CommandLine}
-use Rattle.ce_words.specs.Line.{asked_line}
+use Rattle.ce_words.specs.Line.{line_of_words}
 use Rattle.ce_script.specs.Rounds.{serial, threaded}
 use Rattle.ce_script.specs.Serial.{IsSerial}
 use Rattle.ce_script.specs.Legal.{IsLegal}
@@ -15,7 +15,7 @@ use Rattle.ce_run.specs.declared.run_end.RunFault.{RunFault}
 use Rattle.ce_run.specs.declared.run_end.RunFault.TheVariants as run_fault
 use Rattle.ce_run.specs.Fault.{status_of}
 use Rattle.ce_run.specs.Causes.{IsServed, IsRunNoMemory, HasRunToEnd, HasReported}
-use Rattle.ce_run.specs.Promise.{HasEnded, HasFinished, HasRun, HasScript, text_of}
+use Rattle.ce_run.specs.Promise.{HasEnded, HasFinished, HasRun, HasScript, run_text}
 
 nothing_before : (known : Option (List ℕ)) → known ≡ prepend_known [] known
 nothing_before None = refl
@@ -26,8 +26,8 @@ pub nothing_given : {S : Type 0} (left : S → Option (List ℕ)) (given faults 
 nothing_given left given faults s = record { left = nothing_before (left s); given = omega arith }
 
 -- the end with this fault, and without a record
-abbrev pub refused_with : RunFault → RunEnd
-refused_with fault = record { status = status_of fault; kept = None; fault = Some fault }
+abbrev pub refusal_end : RunFault → RunEnd
+refusal_end fault = record { status = status_of fault; kept = None; fault = Some fault }
 
 -- a run that ended at its words went no further, and so with no fault of what comes behind them
 no_run : (fault : RunFault) → (fault ≡ run_fault.Usage) ⊎ IsRunNoMemory (Some fault) → HasRunToEnd (Some fault) → ⊥
@@ -43,7 +43,7 @@ module _ {S K : Type 0} (left : S → Option (List ℕ)) (given faults : S → �
     (words : List (List ℕ)) where
   -- nothing was read or written, and this is the fault
   abbrev HasEndedWith : RunFault → Type 0
-  HasEndedWith fault = HasEnded words (reading left given faults s s) (writing written failed k k) (refused_with fault)
+  HasEndedWith fault = HasEnded words (reading left given faults s s) (writing written failed k k) (refusal_end fault)
 
   -- words that aren't served, or for which there is no memory
   pub ends_at_words : (fault : RunFault) → (fault ≡ run_fault.Usage) ⊎ IsRunNoMemory (Some fault) → (fault ≡ run_fault.Usage → ¬ IsServed words) → HasEndedWith fault
@@ -77,7 +77,7 @@ both (Some a) P Q R Z f p q r = f a p q r
 pub runs_as_promised : {S K : Type 0} (line : CommandLine) (source : Reading S) (sink : Writing K) (script : Script) (end : RunEnd)
     → line.is_serial ≡ true → HasScript line.load source script → HasFinished script line.load sink end → IfSome end.kept (HasRun line source sink end.fault)
 runs_as_promised line source sink script end one has finished =
-    both end.kept (IsLegal serial script) (IsSerial script) (λ kept. HasReported end.fault (text_of line.load script kept) (sink.written sink.old) (sink.written sink.new))
+    both end.kept (IsLegal serial script) (IsSerial script) (λ kept. HasReported end.fault (run_text line.load script kept) (sink.written sink.old) (sink.written sink.new))
     (HasRun line source sink end.fault)
     (λ kept legal in_order reported. record {
       script = script;
@@ -98,7 +98,7 @@ some_differs load seed some none = absurd (cc)
 
 -- the run of a load, for which nothing is read
 pub ends_of_load : {S K : Type 0} (left : S → Option (List ℕ)) (given faults : S → ℕ) (s : S) (sink : Writing K)
-    (words : List (List ℕ)) (script : Script) (seed : ℕ) (end : RunEnd) → IsServed words → (asked_line words).load ≡ Some seed
+    (words : List (List ℕ)) (script : Script) (seed : ℕ) (end : RunEnd) → IsServed words → (line_of_words words).load ≡ Some seed
     → HasFinished script (Some seed) sink end → HasEnded words (reading left given faults s s) sink end
 ends_of_load left given faults s sink words script seed end served asked finished = record {
   status = finished.status;
@@ -113,7 +113,7 @@ ends_of_load left given faults s sink words script seed end served asked finishe
   too_long = (λ e. absurd (other_fault end.fault run_fault.TooLong (λ f. f) (λ f. f) finished.fault e), λ over. absurd (omega arith));
   bounded = omega arith;
   faulty = λ fault e. absurd (other_fault end.fault (run_fault.Script fault) (λ f. f) (λ f. f) finished.fault e);
-  faultless = λ ran none. absurd (some_differs (asked_line words).load seed asked none);
+  faultless = λ ran none. absurd (some_differs (line_of_words words).load seed asked none);
   read = λ e. absurd (other_fault end.fault run_fault.Read (λ f. f) (λ f. f) finished.fault e);
   no_read_failed = inr refl;
   write = finished.write;

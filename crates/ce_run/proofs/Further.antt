@@ -23,21 +23,21 @@ use Rattle.ce_cube.proofs.Fronts.{mix-serial}
 use Rattle.ce_script.specs.declared.record.UserRecord.{UserRecord}
 use Rattle.ce_script.specs.declared.record.Record.{Record}
 use Rattle.ce_script.specs.declared.script.Script.{Script}
-use Rattle.ce_script.specs.Bounds.{IsWithinLimits, IsCommandWithin, IsOwnCommandWithin}
+use Rattle.ce_script.specs.Bounds.{IsWithinLimits, IsCommandWithin, IsUserCommandWithin}
 use Rattle.ce_script.specs.Legal.{IsLegal, machine_of}
 use Rattle.ce_script.specs.Rounds.{serial}
 use Rattle.ce_script.specs.Serial.{IsSerial}
 use Rattle.ce_script.specs.Moments as moments
 use Rattle.ce_script.specs.Doings.{Doing}
-use Rattle.ce_record.specs.Held.{holding_of, held_now}
-use Rattle.ce_record.specs.Run.{IsRunSoFar, AreReplies, doing_behind}
+use Rattle.ce_record.specs.Held.{cube_holding, history_holding}
+use Rattle.ce_record.specs.Run.{IsRunSoFar, AreReplies, next_doing}
 use Rattle.ce_record.proofs.Moments.{foreign-to}
 use Rattle.ce_record.proofs.Held.{others_stay}
 use Rattle.ce_record.proofs.Legal.{script_has_machine, run_is_legal, no_user_is_legal}
 use Rattle.ce_record.proofs.Run.{run_begins, run_goes_on}
 use Rattle.ce_record.proofs.Replies.{replies_begin, replies_go_on}
 use Rattle.ce_run.specs.declared.user_state.UserState.{UserState}
-use Rattle.ce_run.specs.declared.user_state.UserState.TheVariants.{Free, Holding}
+use Rattle.ce_run.specs.declared.user_state.UserState.TheVariants.{HomeHost, CubeCrew}
 use Rattle.ce_run.specs.UserStates.{HasDone, IsUserStateAt, IsUserAt, UserFacts, free_host, own_crew, user_facts}
 use Rattle.ce_run.specs.Script.{IsRunBehind, HasGoneFurther, IsFreeState, AreFreeStates}
 use Rattle.ce_run.proofs.StatesBehind.{crew-keeps}
@@ -50,12 +50,12 @@ trace_in (Some held) = held.trace
 
 -- a user that holds the same cube, by what is held now, has the same trace
 same-trace : (h h' : List Entry) (user : ℕ) (cube : HeldCube) → cube_held_by (after h) user ≡ Some cube → cube_held_by (after h') user ≡ cube_held_by (after h) user
-    → held_now h' user ≡ held_now h user → view h' cube.number ≡ view h cube.number
+    → history_holding h' user ≡ history_holding h user → view h' cube.number ≡ view h cube.number
 same-trace h h' user cube holds same now =
-    ap (λ held. trace_in (option_map (holding_of h') held)) (sym (same ∙ holds)) ∙ ap trace_in now ∙ ap (λ held. trace_in (option_map (holding_of h) held)) holds
+    ap (λ held. trace_in (option_map (cube_holding h') held)) (sym (same ∙ holds)) ∙ ap trace_in now ∙ ap (λ held. trace_in (option_map (cube_holding h) held)) holds
 
 pub state-stays : (parts : MachineParts) (h h' : List Entry) (user : ℕ) (facts : UserFacts) → cube_held_by (after h') user ≡ cube_held_by (after h) user
-    → held_now h' user ≡ held_now h user → IsUserAt parts h user facts → IsUserAt parts h' user facts
+    → history_holding h' user ≡ history_holding h user → IsUserAt parts h user facts → IsUserAt parts h' user facts
 state-stays parts h h' user (free_host host) same now state_is = (same ∙ state_is.0, state_is.1)
 state-stays parts h h' user (own_crew crew) same now state_is =
     let held = state_is.1.held in
@@ -67,7 +67,7 @@ state-stays parts h h' user (own_crew crew) same now state_is =
     )
 
 some-stays : (parts : MachineParts) (h h' : List Entry) (user : ℕ) (user_state : Option UserState) → cube_held_by (after h') user ≡ cube_held_by (after h) user
-    → held_now h' user ≡ held_now h user → IsSomeAnd user_state (IsUserStateAt parts h user) → IsSomeAnd user_state (IsUserStateAt parts h' user)
+    → history_holding h' user ≡ history_holding h user → IsSomeAnd user_state (IsUserStateAt parts h user) → IsSomeAnd user_state (IsUserStateAt parts h' user)
 some-stays parts h h' user None same now is = is
 some-stays parts h h' user (Some user_state) same now is = state-stays parts h h' user (user_facts user_state) same now is
 
@@ -80,16 +80,16 @@ pub record HasNewState (user : ℕ) (user_state : UserState) (user_states user_s
   pub others : (other : ℕ) → other ≢ user → slice_index_or user_states' other None ≡ slice_index_or user_states other None
 
 -- one user's record has this command more
-pub record HasNoted (user : ℕ) (command : Command) (answer : Answer) (users users' : List UserRecord) : Type 0 where
+pub record HasRecordedCommand (user : ℕ) (command : Command) (answer : Answer) (users users' : List UserRecord) : Type 0 where
   pub names : map (λ (one : UserRecord). one.name) users' ≡ map (λ one. one.name) users
   pub replies : map (λ (one : UserRecord). one.done) users'
       ≡ slice_set (map (λ one. one.done) users) user (slice_index_or (map (λ one. one.done) users) user [] ++ (command, answer) ∷ [])
 
 module _ (before behind : MachineFacts) (user_states user_states' : List (Option UserState)) (users users' : List UserRecord) (user : ℕ) (command : Command)
     (answer : Answer) (user_state : UserState) (machine : IsMachine before.parts) (below : user < length users) (done : HasDone serial before behind user command answer (user_facts user_state))
-    (state_is : HasNewState user user_state user_states user_states') (noted : HasNoted user command answer users users') where
+    (state_is : HasNewState user user_state user_states user_states') (noted : HasRecordedCommand user command answer users users') where
   abbrev doing : Doing
-  doing = doing_behind before.history command answer done.new_entries
+  doing = next_doing before.history command answer done.new_entries
 
   -- nothing else was added on one thread
   history-is : behind.history ≡ before.history ++ done.new_entries
@@ -154,7 +154,7 @@ state-put_back user_states user user_state below = record {
 }
 
 pub noted-more : (users : List UserRecord) (user : ℕ) (one : UserRecord) (command : Command) (answer : Answer) → user < length users → one ≡ get_or users user one
-    → HasNoted user command answer users (set users user (record one { done = one.done ++ (command, answer) ∷ [] }))
+    → HasRecordedCommand user command answer users (set users user (record one { done = one.done ++ (command, answer) ∷ [] }))
 noted-more users user one command answer below is =
     let new = record one { done = one.done ++ (command, answer) ∷ [] } in
     let done : one.done ≡ get_or (map (λ (one : UserRecord). one.done) users) user [] =
@@ -168,10 +168,10 @@ noted-more users user one command answer below is =
 -- the record of the user of a command, in its place
 pub noted-in-place : (users : List UserRecord) (user : ℕ) (one : UserRecord) (command : Command) (answer : Answer) (done : List (Command × Answer)) → user < length users
     → one ≡ get_or users user one → done ≡ (get_or users user one).done ++ (command, answer) ∷ []
-    → HasNoted user command answer users (set users user (record { name = (get_or users user one).name; done = done }))
+    → HasRecordedCommand user command answer users (set users user (record { name = (get_or users user one).name; done = done }))
 noted-in-place users user one command answer done below is more =
     let here = get_or users user one in
-    subst (λ (done : List (Command × Answer)). HasNoted user command answer users (set users user (record { name = here.name; done = done }))) (sym more)
+    subst (λ (done : List (Command × Answer)). HasRecordedCommand user command answer users (set users user (record { name = here.name; done = done }))) (sym more)
     (noted-more users user here command answer below (ap (get_or users user) is))
 
 -- ---- a whole run
@@ -181,15 +181,15 @@ abbrev pub own_command : ℕ × Doing → ℕ × Command
 own_command own = (own.0, own.1.command)
 
 -- the first commands of a script, so many, were carried out
-pub record IsPartDone (script : Script) (machine : MachineFacts) (user_states : List (Option UserState)) (users : List UserRecord) (count : ℕ) : Type 0 where
+pub record HasDoneCommands (script : Script) (machine : MachineFacts) (user_states : List (Option UserState)) (users : List UserRecord) (count : ℕ) : Type 0 where
   pub all : List (ℕ × Doing)
   pub commands : map own_command all ≡ take count script.commands
   pub behind : IsRunBehind script machine user_states users all
 
 free-at : (parts : MachineParts) (user : ℕ) (user_state : UserState) → IsFreeState user user_state → IsUserStateAt parts [] user user_state
 unfolding after
-free-at parts user (Free host) free = (refl, free)
-free-at parts user (Holding crew) free = absurd free
+free-at parts user (HomeHost host) free = (refl, free)
+free-at parts user (CubeCrew crew) free = absurd free
 
 some-free : (parts : MachineParts) (user : ℕ) (user_state : Option UserState) → IsSomeAnd user_state (IsFreeState user) → IsSomeAnd user_state (IsUserStateAt parts [] user)
 some-free parts user None is = is
@@ -220,19 +220,19 @@ states-more count user_states user_state opened free = (
 )
 
 -- a user who did nothing
-abbrev pub blank : List ℕ → UserRecord
-blank name = record { name = name; done = [] }
+abbrev pub blank_user_record : List ℕ → UserRecord
+blank_user_record name = record { name = name; done = [] }
 
-blank-names : (names : List (List ℕ)) → map (λ (one : UserRecord). one.name) (map blank names) ≡ names
+blank-names : (names : List (List ℕ)) → map (λ (one : UserRecord). one.name) (map blank_user_record names) ≡ names
 blank-names [] = refl
 blank-names (name ∷ names) = ap (λ more. name ∷ more) (blank-names names)
 
-blank-dones : (names : List (List ℕ)) → map (λ (one : UserRecord). one.done) (map blank names) ≡ replicate (length names) []
+blank-dones : (names : List (List ℕ)) → map (λ (one : UserRecord). one.done) (map blank_user_record names) ≡ replicate (length names) []
 blank-dones [] = refl
 blank-dones (name ∷ names) = ap (λ more. [] ∷ more) (blank-dones names)
 
 pub run-opens : (script : Script) (user_states : List (Option UserState)) → AreFreeStates (length script.users) user_states
-    → IsPartDone script (record { parts = machine_of script; history = [] }) user_states (map blank script.users) 0
+    → HasDoneCommands script (record { parts = machine_of script; history = [] }) user_states (map blank_user_record script.users) 0
 run-opens script user_states opened = record {
   all = [];
   commands = refl;
@@ -250,10 +250,10 @@ run-opens script user_states opened = record {
 -- with what was opened
 pub run-opens-by : (script : Script) (machine : MachineFacts) (user_states : List (Option UserState)) (users : List UserRecord) (count : ℕ) (names : List (List ℕ))
     → machine ≡ record { parts = machine_of script; history = [] } → count ≡ length script.users → AreFreeStates count user_states → names ≡ script.users
-    → users ≡ map blank names → IsPartDone script machine user_states users 0
+    → users ≡ map blank_user_record names → HasDoneCommands script machine user_states users 0
 run-opens-by script machine user_states users count names machine_is count_is opened names_is users_is =
-    subst (λ machine. IsPartDone script machine user_states users 0) (sym machine_is)
-    (subst (λ users. IsPartDone script (record { parts = machine_of script; history = [] }) user_states users 0) (sym (users_is ∙ ap (map blank) names_is))
+    subst (λ machine. HasDoneCommands script machine user_states users 0) (sym machine_is)
+    (subst (λ users. HasDoneCommands script (record { parts = machine_of script; history = [] }) user_states users 0) (sym (users_is ∙ ap (map blank_user_record) names_is))
     (run-opens script user_states (subst (λ n. AreFreeStates n user_states) count_is opened)))
 
 -- the run of a script without users
@@ -287,7 +287,7 @@ all-at P [] i x below is all = absurd (omega (arith, below))
 all-at P (y ∷ ys) zero x below is all = subst P (sym is) all.0
 all-at P (y ∷ ys) (suc i) x below is all = all-at P ys i x (omega (arith, below)) is all.1
 
-module _ (script : Script) (machine : MachineFacts) (user_states : List (Option UserState)) (users : List UserRecord) (count : ℕ) (part : IsPartDone script machine user_states users count) where
+module _ (script : Script) (machine : MachineFacts) (user_states : List (Option UserState)) (users : List UserRecord) (count : ℕ) (part : HasDoneCommands script machine user_states users count) where
   commanders : length users ≡ length script.users
   commanders = users-all script machine user_states users part.all part.behind
 
@@ -296,7 +296,7 @@ module _ (script : Script) (machine : MachineFacts) (user_states : List (Option 
       → (user, command) ≡ get_or script.commands count (user, command)
       → (user < length users) × IsCommandWithin (length machine.parts.images) command
   next-within within user command below is =
-      let own = all-at (IsOwnCommandWithin (length script.users) (length script.images)) script.commands count (user, command) below is within.commands in
+      let own = all-at (IsUserCommandWithin (length script.users) (length script.images)) script.commands count (user, command) below is within.commands in
       let images : length machine.parts.images ≡ length script.images =
       ap (λ (parts : MachineParts). length parts.images) part.behind.parts ∙ length-map script.images (λ named. named.image) in (
         subst (λ n. user < n) (sym commanders) own.0,
@@ -305,7 +305,7 @@ module _ (script : Script) (machine : MachineFacts) (user_states : List (Option 
 
   pub part-more : (machine' : MachineFacts) (user_states' : List (Option UserState)) (users' : List UserRecord) (user : ℕ) (command : Command) → count < length script.commands
       → (user, command) ≡ get_or script.commands count (user, command) → HasGoneFurther machine machine' user_states user_states' users users' user command
-      → IsPartDone script machine' user_states' users' (suc count)
+      → HasDoneCommands script machine' user_states' users' (suc count)
   part-more machine' user_states' users' user command below is gone = record {
     all = part.all ++ (user, gone.doing) ∷ [];
     commands = map-append own_command part.all ((user, gone.doing) ∷ []) ∙ ap₂ (λ front command. front ++ (user, command) ∷ []) part.commands gone.command_is

@@ -5,9 +5,7 @@ use Rattle.std.proofs.lemmas.Bool.{ne_eqb}
 use Rattle.rv_model.specs.Image.{ImageParts}
 use Rattle.ce_model.specs.declared.topology.TheConstants.{HOST}
 use Rattle.ce_model.specs.declared.entry.Entry.{Entry}
-use Rattle.ce_model.specs.declared.entry.What.TheVariants.{Look, HostTake}
-use Rattle.ce_model.specs.declared.entry.LookResult.TheVariants.{Busy}
-use Rattle.ce_model.specs.Node.{look_call}
+use Rattle.ce_model.specs.declared.entry.What.TheVariants.{HostTake}
 use Rattle.ce_model.specs.Parcels.{Item, is_eligible}
 use Rattle.ce_model.specs.Trace.{Mark, Standing, standing, waiting_items, mark, allowed_dispatches, made_dispatches}
 use Rattle.ce_model.specs.Answers.{is_quiet, is_quiet_node, is_used_up}
@@ -20,14 +18,13 @@ use Rattle.ce_solo.proofs.Lists.{all-append}
 use Rattle.ce_solo.proofs.Projection.Numbers.{IsPlaced, relative_host, few_relative}
 use Rattle.ce_daemon.specs.declared.grant.Grant.{Grant}
 use Rattle.ce_machine.specs.Meanings.{MachineFacts}
-use Rattle.ce_cube.specs.Boxes.{IsHeldAs, IsMadeBy}
-use Rattle.ce_cube.specs.Crews.{IsLawfulMachine, IsCrewInStep, HasGoneOn, HasMadeRound, CrewFacts, HasMadeSerialRound}
+use Rattle.ce_cube.specs.Crews.{IsLawfulMachine, IsCrewInStep, HasCrewGoneOn, HasMadeRound, CrewFacts, HasMadeSerialRound}
 use Rattle.ce_daemon.specs.Peeks.{cube_grant}
 use Rattle.ce_cube.specs.Rounds.{dispatches_left}
 use Rattle.ce_cube.proofs.Crewing.{still-sound, stands-still, gone-both}
 use Rattle.ce_cube.proofs.Held.{placed-of}
-use Rattle.ce_cube.proofs.Looks.{IsAtRest}
-use Rattle.ce_script.specs.Rounds.{RoundKind, joined_lists, IsRoundWithoutWork}
+use Rattle.ce_cube.proofs.Looks.{IsCubeAtRest}
+use Rattle.ce_script.specs.Rounds.{RoundKind, joined_lists}
 use Rattle.ce_script.specs.Commands.{host_take}
 use Rattle.ce_record.specs.CubeRounds.{IsRoundOf}
 use Rattle.ce_record.proofs.Moments.{flat-last}
@@ -37,11 +34,11 @@ use Rattle.ce_run.specs.UserStates.{HasCrew, HasReadyCrew}
 
 -- ---- a crew that goes on
 
-pub crew-stays : (kind : RoundKind) (before behind : MachineFacts) (crew crew' : CrewFacts) (made : List Entry) → HasGoneOn kind before behind crew crew' made
+pub crew-stays : (kind : RoundKind) (before behind : MachineFacts) (crew crew' : CrewFacts) (made : List Entry) → HasCrewGoneOn kind before behind crew crew' made
     → HasCrew before crew → HasCrew behind crew'
 crew-stays kind before behind crew crew' made on has = record {
   user = record {
-    book = still-sound kind before behind crew crew' made has.user.book on;
+    sound = still-sound kind before behind crew crew' made has.user.sound on;
     within = subst (λ (g : Grant). g.user < behind.parts.users) (sym on.grant)
         (subst (λ (p : MachineParts). crew.grant.user < p.users) (sym on.parts) has.user.within);
   };
@@ -49,11 +46,11 @@ crew-stays kind before behind crew crew' made on has = record {
 }
 
 pub images-stay : (kind : RoundKind) (before behind : MachineFacts) (crew crew' : CrewFacts) (made : List Entry) (images : List ImageParts)
-    → HasGoneOn kind before behind crew crew' made → images ≡ before.parts.images → images ≡ behind.parts.images
+    → HasCrewGoneOn kind before behind crew crew' made → images ≡ before.parts.images → images ≡ behind.parts.images
 images-stay kind before behind crew crew' made images on is = is ∙ ap (λ (p : MachineParts). p.images) (sym on.parts)
 
 pub ready-stays : (kind : RoundKind) (before behind : MachineFacts) (crew crew' : CrewFacts) (made : List Entry) (images : List ImageParts)
-    → HasGoneOn kind before behind crew crew' made → HasReadyCrew before images crew → HasReadyCrew behind images crew'
+    → HasCrewGoneOn kind before behind crew crew' made → HasReadyCrew before images crew → HasReadyCrew behind images crew'
 ready-stays kind before behind crew crew' made images on is = record {
   crew_is = crew-stays kind before behind crew crew' made on is.crew_is;
   images_are = images-stay kind before behind crew crew' made images on is.images_are;
@@ -62,8 +59,8 @@ ready-stays kind before behind crew crew' made images on is = record {
 -- ---- rounds
 
 -- the dispatches that are left to a crew
-abbrev pub left_to : MachineFacts → CrewFacts → ℕ
-left_to m crew = dispatches_left m.parts m.history crew.grant.number (cube_grant crew.grant)
+abbrev pub crew_dispatches_left : MachineFacts → CrewFacts → ℕ
+crew_dispatches_left m crew = dispatches_left m.parts m.history crew.grant.number (cube_grant crew.grant)
 
 -- a crew's round, as one of its user's cube
 abbrev pub IsOwnRound : RoundKind → CrewFacts → Bool → List Entry → Type 0
@@ -78,9 +75,9 @@ round-of kind now behind crew crew' work made = record {
 }
 
 pub left-behind : (now behind : MachineFacts) (crew crew' : CrewFacts) (work : Bool) → HasMadeSerialRound now behind crew crew' work
-    → left_to behind crew' + (if work then 1 else 0) ≤ left_to now crew
+    → crew_dispatches_left behind crew' + (if work then 1 else 0) ≤ crew_dispatches_left now crew
 left-behind now behind crew crew' work made =
-    subst (λ (g : Grant). dispatches_left behind.parts behind.history g.number (cube_grant g) + (if work then 1 else 0) ≤ left_to now crew) (sym made.made_round.goes_on.grant) made.left
+    subst (λ (g : Grant). dispatches_left behind.parts behind.history g.number (cube_grant g) + (if work then 1 else 0) ≤ crew_dispatches_left now crew) (sym made.made_round.goes_on.grant) made.left
 
 pub by-grant : (kind : RoundKind) (crew crew' : CrewFacts) (work : Bool) (round : List Entry) → crew'.grant ≡ crew.grant → IsOwnRound kind crew' work round
     → IsOwnRound kind crew work round
@@ -93,7 +90,7 @@ all-by-grant kind crew crew' rounds same is = subst (λ (g : Grant). AllByRecurs
 -- rounds with work were made so far
 pub record HasMadeRounds (kind : RoundKind) (before now : MachineFacts) (crew crew' : CrewFacts) : Type 0 where
   pub rounds : List (List Entry)
-  pub goes_on : HasGoneOn kind before now crew crew' (joined_lists rounds)
+  pub goes_on : HasCrewGoneOn kind before now crew crew' (joined_lists rounds)
   pub with_work : AllByRecursion (IsOwnRound kind crew true) rounds
 
 pub no-round : (kind : RoundKind) (m : MachineFacts) (crew : CrewFacts) → IsLawfulMachine m → IsCrewInStep m.parts m.history crew → HasMadeRounds kind m m crew crew
@@ -103,7 +100,7 @@ module _ (kind : RoundKind) (before now behind : MachineFacts) (crew crew' crew'
   pub one-round-more : HasMadeRound kind now behind crew' crew'' true → HasMadeRounds kind before behind crew crew''
   one-round-more made = record {
     rounds = so_far.rounds ++ made.round ∷ [];
-    goes_on = subst (HasGoneOn kind before behind crew crew'') (sym (flat-last (λ list. list) so_far.rounds made.round))
+    goes_on = subst (HasCrewGoneOn kind before behind crew crew'') (sym (flat-last (λ list. list) so_far.rounds made.round))
         (gone-both kind before now behind crew crew' crew'' (joined_lists so_far.rounds) made.round so_far.goes_on made.goes_on);
     with_work = all-append (IsOwnRound kind crew true) so_far.rounds (made.round ∷ []) so_far.with_work
         (by-grant kind crew crew' true made.round so_far.goes_on.grant (round-of kind now behind crew' crew'' true made), tt);
@@ -122,7 +119,7 @@ module _ (kind : RoundKind) (before now behind : MachineFacts) (crew crew' crew'
 
 -- the crew's cube is quiet, or its dispatches are used up
 abbrev pub IsCrewResting : MachineFacts → CrewFacts → Type 0
-IsCrewResting m crew = IsAtRest m.parts m.history crew.grant.number (cube_grant crew.grant)
+IsCrewResting m crew = IsCubeAtRest m.parts m.history crew.grant.number (cube_grant crew.grant)
 
 -- ---- a look for a message that finds none leaves it so
 
@@ -174,13 +171,13 @@ module _ (kind : RoundKind) (before behind : MachineFacts) (crew crew' : CrewFac
 
   pub rests-on : IsCrewResting before crew → IsCrewResting behind crew'
   rests-on rests =
-      subst (λ (g : Grant). IsAtRest behind.parts behind.history g.number (cube_grant g)) (sym none.grant)
-      (subst (λ (p : MachineParts). IsAtRest p behind.history crew.grant.number grant) (sym none.parts)
+      subst (λ (g : Grant). IsCubeAtRest behind.parts behind.history g.number (cube_grant g)) (sym none.grant)
+      (subst (λ (p : MachineParts). IsCubeAtRest p behind.history crew.grant.number grant) (sym none.parts)
       (subst (λ t. (is_quiet (node_numbers grant.dim) (standing o t) || is_used_up (standing o t)) ≡ true) (sym trace)
       (ap₂ (λ a b. a || b) (quiet-kept o t crew.grant.user grant.dim (few_relative before.parts.dim grant placed)) (used-kept o t crew.grant.user) ∙ rests)))
 
-  pub left-on : left_to behind crew' ≡ left_to before crew
+  pub left-on : crew_dispatches_left behind crew' ≡ crew_dispatches_left before crew
   left-on =
-      subst (λ (g : Grant). dispatches_left behind.parts behind.history g.number (cube_grant g) ≡ left_to before crew) (sym none.grant)
-      (subst (λ (p : MachineParts). dispatches_left p behind.history crew.grant.number grant ≡ left_to before crew) (sym none.parts)
+      subst (λ (g : Grant). dispatches_left behind.parts behind.history g.number (cube_grant g) ≡ crew_dispatches_left before crew) (sym none.grant)
+      (subst (λ (p : MachineParts). dispatches_left p behind.history crew.grant.number grant ≡ crew_dispatches_left before crew) (sym none.parts)
       (ap (λ t. allowed_dispatches o t - made_dispatches o t) trace ∙ left-kept o t crew.grant.user))

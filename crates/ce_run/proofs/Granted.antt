@@ -6,14 +6,14 @@ use Rattle.ce_model.specs.declared.topology.Subcube.{Subcube}
 use Rattle.ce_model.specs.declared.entry.Entry.{Entry}
 use Rattle.ce_model.specs.declared.entry.What.TheVariants as whats
 use Rattle.ce_model.specs.Limits.{greatest_dim}
-use Rattle.ce_model.specs.Subcubes.{first_free}
+use Rattle.ce_model.specs.Subcubes.{first_free_subcube}
 use Rattle.ce_model.specs.Views.{view}
 use Rattle.ce_model.specs.Machine.{MachineState, after, cube_held_by, is_free, getcube, what_of_request, IsFitting}
-use Rattle.ce_model.specs.Literals.{of_host}
+use Rattle.ce_model.specs.Literals.{host_entry}
 use Rattle.ce_solo.proofs.Projection.Law.{after-more}
 use Rattle.ce_daemon.specs.declared.grant.Grant.{Grant}
-use Rattle.ce_daemon.specs.Boxes.{AreBoxesOf}
-use Rattle.rk_node.specs.Boxes.{Box, IsClean}
+use Rattle.ce_daemon.specs.Boxes.{AreGrantBoxes}
+use Rattle.rk_node.specs.Boxes.{Box, IsCleanBox}
 use Rattle.ce_host.specs.declared.host.Host.{Host}
 use Rattle.ce_host.specs.declared.command.Command.TheVariants.{Getcube}
 use Rattle.ce_host.specs.declared.answer.Answer.{Answer}
@@ -23,7 +23,7 @@ use Rattle.ce_machine.specs.declared.call.Call.TheVariants as calls
 use Rattle.ce_machine.specs.declared.call.Reply.{Reply}
 use Rattle.ce_machine.specs.declared.call.Reply.TheVariants as replies
 use Rattle.ce_machine.specs.Requests.{IsFittingCall}
-use Rattle.ce_machine.specs.Replies.{IsReplyTo, IsGrantReply, IsGranted}
+use Rattle.ce_machine.specs.Replies.{IsReplyTo, IsGrantReply, IsReplyWithGrant}
 use Rattle.ce_daemon.specs.Holding.{next_grant}
 use Rattle.ce_cube.specs.Boxes.{IsHeldAs, IsBegun}
 use Rattle.ce_cube.specs.Crews.{IsCrewInStep, IsHostAtHome, CrewFacts}
@@ -44,26 +44,26 @@ module _ (before : MachineFacts) (user dim : ℕ) (has : HasUser before user) (f
   fits : IsFitting before.parts before.history user HOST (getcube dim)
   fits = (has.within, (refl, within, free))
 
-  pub getcube-fits : IsFittingCall home_of IsClean before.parts before.history (record { family = user; actor = HOST }) (calls.Getcube dim)
-  getcube-fits = record { machine = has.book.within; fits = fits; boxes = tt }
+  pub getcube-fits : IsFittingCall home_of IsCleanBox before.parts before.history (record { family = user; actor = HOST }) (calls.Getcube dim)
+  getcube-fits = record { machine = has.sound.within; fits = fits; boxes = tt }
 
   module _ (behind : MachineFacts) (reply : Reply Box) (asks : HasAsked before behind user (calls.Getcube dim) reply) where
     abbrev found_now : Option Subcube
-    found_now = first_free (is_free state) before.parts.dim dim
+    found_now = first_free_subcube (is_free state) before.parts.dim dim
 
     what-now : whats.Getcube dim found_now ≡ asks.what
     what-now = same-what (whats.Getcube dim found_now) asks.what asks.answer
 
-    reply-now : IsGrantReply home_of IsClean state user dim found_now reply
-    reply-now = subst (λ what. IsReplyTo home_of IsClean before.parts state user HOST what reply) (sym what-now) asks.reply_is
+    reply-now : IsGrantReply home_of IsCleanBox state user dim found_now reply
+    reply-now = subst (λ what. IsReplyTo home_of IsCleanBox before.parts state user HOST what reply) (sym what-now) asks.reply_is
 
     -- the command is done by the entry of this subcube
     module _ (sub : Option Subcube) (what : whats.Getcube dim sub ≡ asks.what) where
       abbrev made : Entry
-      made = of_host user (whats.Getcube dim sub)
+      made = host_entry user (whats.Getcube dim sub)
 
       history-is : behind.history ≡ before.history ++ made ∷ []
-      history-is = asks.history ∙ ap (λ what. before.history ++ of_host user what ∷ []) (sym what)
+      history-is = asks.history ∙ ap (λ what. before.history ++ host_entry user what ∷ []) (sym what)
 
       answer-is : what_of_request before.parts state user HOST (getcube dim) ≡ Some (whats.Getcube dim sub)
       answer-is = asks.answer ∙ ap Some (sym what)
@@ -79,31 +79,31 @@ module _ (before : MachineFacts) (user dim : ℕ) (has : HasUser before user) (f
         whole = inl refl;
         lawful = asks.lawful;
         next = asked kind before.parts before.history user (Getcube dim) (record { home = 0; index = 0 }) (getcube dim) (whats.Getcube dim sub) answer
-            has.book.within has.book.lawful refl (record { fits = fits; answer = answer-is }) (ap Some is);
+            has.sound.within has.sound.lawful refl (record { fits = fits; answer = answer-is }) (ap Some is);
         state_is = state_is;
       }
 
     -- ---- none is free
 
-    none-by : (kind : RoundKind) (sub : Option Subcube) → whats.Getcube dim sub ≡ asks.what → IsGrantReply home_of IsClean state user dim sub reply → reply ≡ replies.NoneFree
+    none-by : (kind : RoundKind) (sub : Option Subcube) → whats.Getcube dim sub ≡ asks.what → IsGrantReply home_of IsCleanBox state user dim sub reply → reply ≡ replies.NoneFree
         → (host : Host) → IsHostAtHome user host → HasDone kind before behind user (Getcube dim) answers.None (free_host host)
     none-by kind None what is none host home =
         done-so None what kind answers.None (free_host host) refl (
           ap (λ h. cube_held_by (after h) user) (history-is None what)
-              ∙ ap (λ (state : MachineState). cube_held_by state user) (after-more before.history (of_host user (whats.Getcube dim None))) ∙ free,
+              ∙ ap (λ (state : MachineState). cube_held_by state user) (after-more before.history (host_entry user (whats.Getcube dim None))) ∙ free,
           home,
         )
-    none-by kind (Some sub) what is none host home = absurd (subst (IsGranted home_of IsClean (next_grant state.grant_count user dim sub)) none is)
+    none-by kind (Some sub) what is none host home = absurd (subst (IsReplyWithGrant home_of IsCleanBox (next_grant state.grant_count user dim sub)) none is)
 
     pub none-done : (kind : RoundKind) → reply ≡ replies.NoneFree → (host : Host) → IsHostAtHome user host → HasDone kind before behind user (Getcube dim) answers.None (free_host host)
     none-done kind = none-by kind found_now what-now reply-now
 
-    granted-ends : (grant : Grant) (reply : Reply Box) → IsGranted home_of IsClean grant reply
+    granted-ends : (grant : Grant) (reply : Reply Box) → IsReplyWithGrant home_of IsCleanBox grant reply
         → ((given : Grant) (boxes : Vec Box) → reply ≡ replies.Granted given boxes → ⊥) → ⊥
     granted-ends grant (replies.Granted given boxes) is other = other given boxes refl
     granted-ends grant another is other = absurd is
 
-    ends-by : (sub : Option Subcube) → IsGrantReply home_of IsClean state user dim sub reply → (reply ≡ replies.NoneFree → ⊥)
+    ends-by : (sub : Option Subcube) → IsGrantReply home_of IsCleanBox state user dim sub reply → (reply ≡ replies.NoneFree → ⊥)
         → ((given : Grant) (boxes : Vec Box) → reply ≡ replies.Granted given boxes → ⊥) → ⊥
     ends-by None is none other = none is
     ends-by (Some sub) is none other = granted-ends (next_grant state.grant_count user dim sub) reply is other
@@ -118,20 +118,20 @@ module _ (before : MachineFacts) (user dim : ℕ) (has : HasUser before user) (f
       sub : Subcube
       what : whats.Getcube dim (Some sub) ≡ asks.what
       grant_is : grant ≡ next_grant state.grant_count user dim sub
-      boxes_are : AreBoxesOf home_of IsClean grant boxes
+      boxes_are : AreGrantBoxes home_of IsCleanBox grant boxes
 
-    granted-by : (sub : Option Subcube) → whats.Getcube dim sub ≡ asks.what → IsGrantReply home_of IsClean state user dim sub reply
+    granted-by : (sub : Option Subcube) → whats.Getcube dim sub ≡ asks.what → IsGrantReply home_of IsCleanBox state user dim sub reply
         → (grant : Grant) (boxes : Vec Box) → reply ≡ replies.Granted grant boxes → IsGrantedSo grant boxes.items
     granted-by None what is grant boxes granted = let differ : replies.NoneFree ≡ replies.Granted grant boxes = sym is ∙ granted in absurd (cc)
     granted-by (Some sub) what is grant boxes granted =
-        let both = subst (IsGranted home_of IsClean (next_grant state.grant_count user dim sub)) granted is in
-        record { sub = sub; what = what; grant_is = both.0; boxes_are = subst (λ g. AreBoxesOf home_of IsClean g boxes.items) (sym both.0) both.1 }
+        let both = subst (IsReplyWithGrant home_of IsCleanBox (next_grant state.grant_count user dim sub)) granted is in
+        record { sub = sub; what = what; grant_is = both.0; boxes_are = subst (λ g. AreGrantBoxes home_of IsCleanBox g boxes.items) (sym both.0) both.1 }
 
     module _ (grant : Grant) (boxes : Vec Box) (granted : reply ≡ replies.Granted grant boxes) where
       abbrev so : IsGrantedSo grant boxes.items
       so = granted-by found_now what-now reply-now grant boxes granted
 
-      pub boxes-are : AreBoxesOf home_of IsClean grant boxes.items
+      pub boxes-are : AreGrantBoxes home_of IsCleanBox grant boxes.items
       boxes-are = so.boxes_are
 
       pub user-is : grant.user ≡ user
@@ -145,7 +145,7 @@ module _ (before : MachineFacts) (user dim : ℕ) (has : HasUser before user) (f
 
       begun : IsBegun before.parts before.history (record { user = user; dim = dim; sub = so.sub })
       begun =
-          grants-begin before.parts before.history (record { user = user; dim = dim; sub = so.sub }) has.book.within has.book.lawful fits
+          grants-begin before.parts before.history (record { user = user; dim = dim; sub = so.sub }) has.sound.within has.sound.lawful fits
           (answer-is (Some so.sub) so.what)
 
       -- a crew that is in step wherever its cube has just begun is in step behind the entry

@@ -17,11 +17,11 @@ use Rattle.ce_model.specs.Answers.{answer, is_quiet, is_used_up, look_result_whe
 use Rattle.ce_model.specs.Cube.{parcel_numbered}
 use Rattle.ce_model.specs.Renaming.{CubeGrant, block_outward}
 use Rattle.ce_model.specs.Machine.{HasHeldCube, after, nodes_of, cube_standing}
-use Rattle.ce_model.specs.Literals.{of_host}
+use Rattle.ce_model.specs.Literals.{host_entry}
 use Rattle.ce_solo.proofs.Counting.{count-is}
 use Rattle.rk_node.proofs.Names.{not_contained}
 use Rattle.xm_block.specs.Stores.{ids_of, with_block}
-use Rattle.rk_node.specs.Boxes.{Box, IsClean}
+use Rattle.rk_node.specs.Boxes.{Box, IsCleanBox}
 use Rattle.rk_mail.specs.Items.{parcel_of}
 use Rattle.rk_mail.specs.declared.parcel.Parcel.{Parcel}
 use Rattle.ce_host.specs.declared.host.Host.{Host}
@@ -30,14 +30,14 @@ use Rattle.ce_machine.specs.declared.call.Call.{Call}
 use Rattle.ce_machine.specs.declared.call.Call.TheVariants as calls
 use Rattle.ce_machine.specs.declared.call.Reply.{Reply}
 use Rattle.ce_machine.specs.declared.call.Reply.TheVariants as replies
-use Rattle.ce_machine.specs.Replies.{IsReplyTo, IsMail, found_reply}
+use Rattle.ce_machine.specs.Replies.{IsReplyTo, IsMailReply, look_reply}
 use Rattle.ce_cube.specs.Boxes.{IsHeldAs, IsAccepted, trace_store}
-use Rattle.ce_cube.specs.Crews.{IsLawfulMachine, IsHostInStep, IsCrewInStep, HasGoneOn, CrewFacts}
+use Rattle.ce_cube.specs.Crews.{IsLawfulMachine, IsHostInStep, IsCrewInStep, HasCrewGoneOn, CrewFacts}
 use Rattle.ce_daemon.specs.Peeks.{cube_grant}
 use Rattle.ce_cube.proofs.Hosts.{hosts-take}
 use Rattle.ce_script.specs.Rounds.{RoundKind}
 use Rattle.ce_script.specs.Commands.{host_take}
-use Rattle.ce_run.specs.Asking.{home_of, IsHostCall, HasCalled}
+use Rattle.ce_run.specs.Asking.{home_of, IsHostCall, HasHostCalled}
 use Rattle.ce_run.specs.Rounds.{HasAllowed, HasLooked, HasTaken, HasTakenNone}
 use Rattle.ce_run.proofs.StatesBehind.{IsKeepingStore, answer-is, gone-on, gone-on-kept, may-allow, may-look, may-take}
 
@@ -46,8 +46,8 @@ use Rattle.ce_run.proofs.StatesBehind.{IsKeepingStore, answer-is, gone-on, gone-
 -- a crew has another host, which is in step
 pub gone-on-with : (kind : RoundKind) (before behind : MachineFacts) (crew crew' : CrewFacts) (call : Call Box) (reply : Reply Box) (machine : IsLawfulMachine before)
     (held : IsHeldAs before.history crew.grant.number (cube_grant crew.grant)) (host : IsHostCall before.parts before.history crew.grant.user call)
-    (called : HasCalled before behind crew crew' call reply) (other : Host) → IsHostInStep before.parts behind.history crew.grant other
-    → HasGoneOn kind before behind crew (record crew' { host = other }) (of_host crew.grant.user called.exchange.what ∷ [])
+    (called : HasHostCalled before behind crew crew' call reply) (other : Host) → IsHostInStep before.parts behind.history crew.grant other
+    → HasCrewGoneOn kind before behind crew (record crew' { host = other }) (host_entry crew.grant.user called.exchange.what ∷ [])
 gone-on-with kind before behind crew crew' call reply machine held host called other stands =
     let goes = gone-on before behind (record crew { host = other }) (record crew' { host = other }) call reply machine held host
     (record {
@@ -80,7 +80,7 @@ length-put id (x ∷ xs) = elim (cases_Bool (is_lower id x)) [
 
 -- ---- what replies say
 
-same-found : (a b : LookResult) → found_reply {N = Box} a ≡ found_reply b → a ≡ b
+same-found : (a b : LookResult) → look_reply {N = Box} a ≡ look_reply b → a ≡ b
 same-found a b e = sym (back a) ∙ ap found_in e ∙ back b
   where
     found_in : Reply Box → LookResult
@@ -88,35 +88,35 @@ same-found a b e = sym (back a) ∙ ap found_in e ∙ back b
     found_in replies.Spent = look_result.Spent
     found_in other = look_result.Busy
 
-    back : (a : LookResult) → found_in (found_reply a) ≡ a
+    back : (a : LookResult) → found_in (look_reply a) ≡ a
     back look_result.Quiet = refl
     back look_result.Spent = refl
     back look_result.Busy = refl
 
-one-found : (found : LookResult) (reply : Reply Box) → reply ≡ found_reply found → (reply ≡ replies.Quiet → ⊥) → (reply ≡ replies.Spent → ⊥) → (reply ≡ replies.Busy → ⊥) → ⊥
+one-found : (found : LookResult) (reply : Reply Box) → reply ≡ look_reply found → (reply ≡ replies.Quiet → ⊥) → (reply ≡ replies.Spent → ⊥) → (reply ≡ replies.Busy → ⊥) → ⊥
 one-found look_result.Quiet reply is quiet spent busy = quiet is
 one-found look_result.Spent reply is quiet spent busy = spent is
 one-found look_result.Busy reply is quiet spent busy = busy is
 
-mail-ends : (number : ℕ) (items : List Item) (reply : Reply Box) → IsMail number items reply → ((parcel : Parcel) → reply ≡ replies.Mail parcel → ⊥) → ⊥
+mail-ends : (number : ℕ) (items : List Item) (reply : Reply Box) → IsMailReply number items reply → ((parcel : Parcel) → reply ≡ replies.Mail parcel → ⊥) → ⊥
 mail-ends number items (replies.Mail parcel) is mail = mail parcel refl
 mail-ends number items other is mail = absurd is
 
 -- ---- it allows
 
 module _ (before behind : MachineFacts) (crew crew' : CrewFacts) (machine : IsLawfulMachine before) (step : IsCrewInStep before.parts before.history crew) (reply : Reply Box) where
-  pub allowed : (kind : RoundKind) (count : ℕ) (within : count ≤ greatest_count) → HasCalled before behind crew crew' (calls.Arm count) reply
+  pub allowed : (kind : RoundKind) (count : ℕ) (within : count ≤ greatest_count) → HasHostCalled before behind crew crew' (calls.Arm count) reply
       → HasAllowed kind before behind crew crew' count
   unfolding answer
   allowed kind count within called =
       let host = may-allow before.parts before.history crew machine.within machine.lawful step.held count within in
       let is : Arm count ≡ called.exchange.what = answer-is before.parts (after before.history) crew.grant.user (arm_call count) called.exchange.what step.held.cube step.held.held called.exchange.answer in
-      subst (λ what. HasGoneOn kind before behind crew crew' (of_host crew.grant.user what ∷ [])) (sym is)
+      subst (λ what. HasCrewGoneOn kind before behind crew crew' (host_entry crew.grant.user what ∷ [])) (sym is)
       (gone-on-kept before behind crew crew' (calls.Arm count) reply machine step.held host called kind step.host (subst IsKeepingStore is tt))
 
   -- ---- it looks
 
-  module _ (called : HasCalled before behind crew crew' calls.Look reply) where
+  module _ (called : HasHostCalled before behind crew crew' calls.Look reply) where
     abbrev found_now : LookResult
     found_now =
         let standing = cube_standing (after before.history) step.held.cube in
@@ -126,20 +126,20 @@ module _ (before behind : MachineFacts) (crew crew' : CrewFacts) (machine : IsLa
     unfolding answer
     look-is = answer-is before.parts (after before.history) crew.grant.user look_call called.exchange.what step.held.cube step.held.held called.exchange.answer
 
-    pub look-reply : reply ≡ found_reply found_now
+    pub look-reply : reply ≡ look_reply found_now
     look-reply =
-        subst (λ what. IsReplyTo home_of IsClean before.parts (after before.history) crew.grant.user HOST what reply) (sym look-is) called.exchange.reply_is
+        subst (λ what. IsReplyTo home_of IsCleanBox before.parts (after before.history) crew.grant.user HOST what reply) (sym look-is) called.exchange.reply_is
 
     looked-now : (kind : RoundKind) → HasLooked kind before behind crew crew' found_now
     looked-now kind =
         let host = may-look before.parts before.history crew machine.within machine.lawful step.held in
         record {
-          goes_on = subst (λ what. HasGoneOn kind before behind crew crew' (of_host crew.grant.user what ∷ [])) (sym look-is)
+          goes_on = subst (λ what. HasCrewGoneOn kind before behind crew crew' (host_entry crew.grant.user what ∷ [])) (sym look-is)
               (gone-on-kept before behind crew crew' calls.Look reply machine step.held host called kind step.host (subst IsKeepingStore look-is tt));
           made = record { user = refl; actor_is = refl; what = called.exchange.answer ∙ ap Some (sym look-is) };
         }
 
-    pub looked : (kind : RoundKind) (found : LookResult) → reply ≡ found_reply found → HasLooked kind before behind crew crew' found
+    pub looked : (kind : RoundKind) (found : LookResult) → reply ≡ look_reply found → HasLooked kind before behind crew crew' found
     looked kind found is = subst (HasLooked kind before behind crew crew') (same-found found_now found (sym look-reply ∙ is)) (looked-now kind)
 
     pub look-ends : (reply ≡ replies.Quiet → ⊥) → (reply ≡ replies.Spent → ⊥) → (reply ≡ replies.Busy → ⊥) → ⊥
@@ -147,7 +147,7 @@ module _ (before behind : MachineFacts) (crew crew' : CrewFacts) (machine : IsLa
 
   -- ---- it takes a message
 
-  module _ (called : HasCalled before behind crew crew' calls.HostTake reply) where
+  module _ (called : HasHostCalled before behind crew crew' calls.HostTake reply) where
     abbrev items : List Item
     items = step.held.cube.mail
 
@@ -158,24 +158,24 @@ module _ (before behind : MachineFacts) (crew crew' : CrewFacts) (machine : IsLa
     unfolding answer
     take-is = answer-is before.parts (after before.history) crew.grant.user mail_call called.exchange.what step.held.cube step.held.held called.exchange.answer
 
-    take-reply : IsReplyTo home_of IsClean before.parts (after before.history) crew.grant.user HOST (HostTake (first_number items)) reply
-    take-reply = subst (λ what. IsReplyTo home_of IsClean before.parts (after before.history) crew.grant.user HOST what reply) (sym take-is) called.exchange.reply_is
+    take-reply : IsReplyTo home_of IsCleanBox before.parts (after before.history) crew.grant.user HOST (HostTake (first_number items)) reply
+    take-reply = subst (λ what. IsReplyTo home_of IsCleanBox before.parts (after before.history) crew.grant.user HOST what reply) (sym take-is) called.exchange.reply_is
 
     -- what a take was answered, by the number of the message, if any
     abbrev IsTakeReply : Option ℕ → Type 0
     IsTakeReply None = reply ≡ replies.NoMail
-    IsTakeReply (Some number) = IsMail number items reply
+    IsTakeReply (Some number) = IsMailReply number items reply
 
-    take-reply-is : (number : Option ℕ) → IsReplyTo home_of IsClean before.parts (after before.history) crew.grant.user HOST (HostTake number) reply → IsTakeReply number
+    take-reply-is : (number : Option ℕ) → IsReplyTo home_of IsCleanBox before.parts (after before.history) crew.grant.user HOST (HostTake number) reply → IsTakeReply number
     take-reply-is None is = is
-    take-reply-is (Some number) is = subst (λ held. IsSomeAnd held (λ cube. IsMail number cube.mail reply)) step.held.held is
+    take-reply-is (Some number) is = subst (λ held. IsSomeAnd held (λ cube. IsMailReply number cube.mail reply)) step.held.held is
 
     taken-none : (kind : RoundKind) (number : Option ℕ) → HostTake number ≡ called.exchange.what → IsTakeReply number → reply ≡ replies.NoMail
         → HasTakenNone kind before behind crew crew'
     taken-none kind None what is none =
-        subst (λ what. HasGoneOn kind before behind crew crew' (of_host crew.grant.user what ∷ [])) (sym what)
+        subst (λ what. HasCrewGoneOn kind before behind crew crew' (host_entry crew.grant.user what ∷ [])) (sym what)
         (gone-on-kept before behind crew crew' calls.HostTake reply machine step.held take_host called kind step.host (subst IsKeepingStore what tt))
-    taken-none kind (Some number) what is none = absurd (subst (IsMail number items) none is)
+    taken-none kind (Some number) what is none = absurd (subst (IsMailReply number items) none is)
 
     pub no-message : (kind : RoundKind) → reply ≡ replies.NoMail → HasTakenNone kind before behind crew crew'
     no-message kind none = taken-none kind (first_number items) take-is (take-reply-is (first_number items) take-reply) none
@@ -197,7 +197,7 @@ module _ (before behind : MachineFacts) (crew crew' : CrewFacts) (machine : IsLa
 
     mail-by : (number : Option ℕ) → HostTake number ≡ called.exchange.what → IsTakeReply number → (parcel : Parcel) → reply ≡ replies.Mail parcel → HasMail parcel
     mail-by None what is parcel mail = let differ : replies.NoMail ≡ replies.Mail parcel = sym is ∙ mail in absurd (cc)
-    mail-by (Some number) what is parcel mail = record { number = number; what = what; waits = subst (IsMail number items) mail is }
+    mail-by (Some number) what is parcel mail = record { number = number; what = what; waits = subst (IsMailReply number items) mail is }
 
     module _ (parcel : Parcel) (mail : reply ≡ replies.Mail parcel) where
       abbrev has : HasMail parcel
@@ -251,7 +251,7 @@ module _ (before behind : MachineFacts) (crew crew' : CrewFacts) (machine : IsLa
         grant = cube_grant crew.grant
 
         history-is : behind.history ≡ before.history ++ entry ∷ []
-        history-is = called.exchange.history ∙ ap (λ what. before.history ++ of_host crew.grant.user what ∷ []) (sym has.what)
+        history-is = called.exchange.history ∙ ap (λ what. before.history ++ host_entry crew.grant.user what ∷ []) (sym has.what)
 
         stands : IsHostInStep before.parts behind.history crew.grant other
         stands = record {
@@ -280,7 +280,7 @@ module _ (before behind : MachineFacts) (crew crew' : CrewFacts) (machine : IsLa
         message-taken kind bytes is = record {
           number = number;
           parcel = parcel_of parcel;
-          goes_on = subst (λ what. HasGoneOn kind before behind crew (record crew' { host = other }) (of_host crew.grant.user what ∷ [])) (sym has.what)
+          goes_on = subst (λ what. HasCrewGoneOn kind before behind crew (record crew' { host = other }) (host_entry crew.grant.user what ∷ [])) (sym has.what)
               (gone-on-with kind before behind crew crew' calls.HostTake reply machine step.held take_host called other stands);
           waited = waited;
           from_is = refl;

@@ -4,10 +4,10 @@ use Rattle.ce_model.specs.declared.topology.TheConstants.{HOST}
 use Rattle.ce_model.specs.declared.entry.What.{What}
 use Rattle.ce_model.specs.declared.entry.What.TheVariants as whats
 use Rattle.ce_model.specs.Machine.{after, peek}
-use Rattle.ce_model.specs.Literals.{of_host}
+use Rattle.ce_model.specs.Literals.{host_entry}
 use Rattle.ce_daemon.specs.declared.grant.PeekResult.{PeekResult}
 use Rattle.ce_daemon.specs.Peeks.{peek_result}
-use Rattle.rk_node.specs.Boxes.{Box, IsClean}
+use Rattle.rk_node.specs.Boxes.{Box, IsCleanBox}
 use Rattle.ce_machine.specs.Meanings.{MachineFacts}
 use Rattle.ce_machine.specs.declared.call.Call.TheVariants as calls
 use Rattle.ce_machine.specs.declared.call.Reply.{Reply}
@@ -27,8 +27,8 @@ pub same-what : (a b : What) → Some a ≡ Some b → a ≡ b
 same-what a b e = cc
 
 pub peek-fits : (before : MachineFacts) (user : ℕ) → HasUser before user
-    → IsFittingCall home_of IsClean before.parts before.history (record { family = user; actor = HOST }) calls.Peek
-peek-fits before user has = record { machine = has.book.within; fits = (has.within, refl); boxes = tt }
+    → IsFittingCall home_of IsCleanBox before.parts before.history (record { family = user; actor = HOST }) calls.Peek
+peek-fits before user has = record { machine = has.sound.within; fits = (has.within, refl); boxes = tt }
 
 -- what a reply says was found
 abbrev found-or : PeekResult → Reply Box → PeekResult
@@ -40,22 +40,22 @@ module _ (before behind : MachineFacts) (user : ℕ) (has : HasUser before user)
   what-is = same-what whats.Peek asks.what asks.answer
 
   pub peek-reply : reply ≡ replies.Peeked (peek_result before.parts (after before.history))
-  peek-reply = subst (λ what. IsReplyTo home_of IsClean before.parts (after before.history) user HOST what reply) (sym what-is) asks.reply_is
+  peek-reply = subst (λ what. IsReplyTo home_of IsCleanBox before.parts (after before.history) user HOST what reply) (sym what-is) asks.reply_is
 
   pub peek-done : (kind : RoundKind) (found : PeekResult) → reply ≡ replies.Peeked found → (facts : UserFacts) → IsUserAt before.parts before.history user facts
       → HasDone kind before behind user Peek (answers.Peeked found) facts
   peek-done kind found is facts state_is =
-      let history = asks.history ∙ ap (λ what. before.history ++ of_host user what ∷ []) (sym what-is) in
+      let history = asks.history ∙ ap (λ what. before.history ++ host_entry user what ∷ []) (sym what-is) in
       let same : peek_result before.parts (after before.history) ≡ found = ap (found-or found) (sym peek-reply ∙ is) in
       record {
-        all_entries = of_host user whats.Peek ∷ [];
-        new_entries = of_host user whats.Peek ∷ [];
+        all_entries = host_entry user whats.Peek ∷ [];
+        new_entries = host_entry user whats.Peek ∷ [];
         parts = asks.parts;
         history = history;
-        mix = mix-own kind user (of_host user whats.Peek ∷ []) (refl, tt);
+        mix = mix-own kind user (host_entry user whats.Peek ∷ []) (refl, tt);
         whole = inl refl;
         lawful = asks.lawful;
-        next = asked kind before.parts before.history user Peek (record { home = 0; index = 0 }) peek whats.Peek (answers.Peeked found) has.book.within has.book.lawful refl
+        next = asked kind before.parts before.history user Peek (record { home = 0; index = 0 }) peek whats.Peek (answers.Peeked found) has.sound.within has.sound.lawful refl
             (record { fits = (has.within, refl); answer = refl }) (ap (λ found. Some (answers.Peeked found)) same);
-        state_is = subst (λ h. IsUserAt before.parts h user facts) (sym history) (state-beside-peek before behind user has.book has.within facts state_is);
+        state_is = subst (λ h. IsUserAt before.parts h user facts) (sym history) (state-beside-peek before behind user has.sound has.within facts state_is);
       }

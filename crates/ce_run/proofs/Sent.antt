@@ -12,25 +12,25 @@ use Rattle.ce_model.specs.Blocks.{Block}
 use Rattle.ce_model.specs.Parcels.{Item}
 use Rattle.ce_model.specs.Node.{Call, send_call, is_place}
 use Rattle.ce_model.specs.Answers.{answer}
-use Rattle.ce_model.specs.Cube.{send_bytes}
+use Rattle.ce_model.specs.Cube.{send_wish}
 use Rattle.ce_model.specs.Renaming.{CubeGrant, block_outward, place_outward}
-use Rattle.ce_model.specs.Machine.{IsFitting, after, what_of_request, cube_standing, in_cube}
-use Rattle.ce_model.specs.Literals.{of_host}
+use Rattle.ce_model.specs.Machine.{IsFitting, after, what_of_request, cube_standing, cube_request}
+use Rattle.ce_model.specs.Literals.{host_entry}
 use Rattle.xm_block.specs.Stores.{ids_of}
 use Rattle.rk_mail.specs.Targets.{targets_of, bytes_of, with_bytes}
 use Rattle.rk_mail.specs.declared.talk.Hearing.{Hearing}
 use Rattle.rk_mail.specs.declared.talk.Hearing.TheVariants.{Posted}
 use Rattle.rk_mail.specs.declared.talk.Say.TheVariants as say
-use Rattle.rk_node.specs.Boxes.{Box, IsClean}
+use Rattle.rk_node.specs.Boxes.{Box, IsCleanBox}
 use Rattle.ce_host.specs.declared.host.Host.{Host}
-use Rattle.ce_host.specs.Hosts.{message_to}
+use Rattle.ce_host.specs.Hosts.{message_for_place}
 use Rattle.ce_host.specs.declared.command.Command.TheVariants.{Send}
 use Rattle.ce_host.specs.declared.answer.Answer.TheVariants as answers
 use Rattle.ce_machine.specs.Meanings.{MachineFacts}
 use Rattle.ce_machine.specs.declared.call.Call.TheVariants as calls
 use Rattle.ce_machine.specs.declared.call.Reply.{Reply}
 use Rattle.ce_machine.specs.declared.call.Reply.TheVariants as replies
-use Rattle.ce_machine.specs.Replies.{IsReplyTo, IsHeard, actor_items}
+use Rattle.ce_machine.specs.Replies.{IsReplyTo, IsHearingReply, actor_items}
 use Rattle.ce_cube.specs.Boxes.{trace_store}
 use Rattle.ce_cube.specs.Crews.{IsLawfulMachine, IsHostInStep, IsCrewInStep, CrewFacts}
 use Rattle.ce_daemon.specs.Peeks.{cube_grant}
@@ -42,8 +42,8 @@ use Rattle.ce_record.proofs.Moments.{map-none}
 use Rattle.ce_record.proofs.Asked.{asked}
 use Rattle.ce_record.proofs.AtOnce.{no_store}
 use Rattle.ce_run.specs.UserStates.{HasDone, own_crew}
-use Rattle.ce_run.specs.Asking.{home_of, IsHostCall, HasCalled}
-use Rattle.ce_run.proofs.StatesBehind.{answer-is, done-at-once, done-by, heard-or}
+use Rattle.ce_run.specs.Asking.{home_of, IsHostCall, HasHostCalled}
+use Rattle.ce_run.proofs.StatesBehind.{answer-is, done-at-once, done-by, hearing-or}
 use Rattle.ce_run.proofs.Looking.{gone-on-with}
 
 -- the least block of a store goes out with the bytes
@@ -53,7 +53,7 @@ record IsMessage (to : Place) (bytes : List ℕ) (blocks : List Block) (batch : 
   blocks_are : blocks ≡ block ∷ others
   batch_is : batch ≡ (to, with_bytes bytes block) ∷ []
 
-message : (to : Place) (bytes : List ℕ) (blocks : List Block) (batch : List (Place × Block)) → Some batch ≡ message_to to bytes blocks → IsMessage to bytes blocks batch
+message : (to : Place) (bytes : List ℕ) (blocks : List Block) (batch : List (Place × Block)) → Some batch ≡ message_for_place to bytes blocks → IsMessage to bytes blocks batch
 message to bytes [] batch e = absurd (cc)
 message to bytes (block ∷ others) batch e =
     record { block = block; others = others; blocks_are = refl; batch_is = cc }
@@ -113,7 +113,7 @@ module _ (before : MachineFacts) (crew : CrewFacts) (machine : IsLawfulMachine b
       subst (λ host. HasDone kind before before crew.grant.user (Send to bytes) answers.NoStore (own_crew (record crew { host = host }))) (sym same)
       (done-at-once kind before crew.grant.user (Send to bytes) answers.NoStore (own_crew crew) machine (nothing-next kind empty) (refl, step))
 
-  module _ (short : length bytes ≤ block_room) (batch : List (Place × Block)) (is : Some batch ≡ message_to to bytes crew.host.store.blocks) where
+  module _ (short : length bytes ≤ block_room) (batch : List (Place × Block)) (is : Some batch ≡ message_for_place to bytes crew.host.store.blocks) where
     abbrev goes : IsMessage to bytes crew.host.store.blocks batch
     goes = message to bytes crew.host.store.blocks batch is
 
@@ -132,23 +132,23 @@ module _ (before : MachineFacts) (crew : CrewFacts) (machine : IsLawfulMachine b
     slot : slice_get store 0 ≡ Some first.id
     slot = ap (λ ids. slice_get ids 0) first.store_is
 
-    fits : IsFitting before.parts before.history crew.grant.user HOST (in_cube call)
+    fits : IsFitting before.parts before.history crew.grant.user HOST (cube_request call)
     fits =
-        subst (λ call. IsFitting before.parts before.history crew.grant.user HOST (in_cube call)) call-outward
-        (hosts-fit before.parts before.history crew.grant.number grant machine.within machine.lawful step.held (send_bytes to bytes) (send_call 0 ((to, first.id) ∷ []) bytes)
+        subst (λ call. IsFitting before.parts before.history crew.grant.user HOST (cube_request call)) call-outward
+        (hosts-fit before.parts before.history crew.grant.number grant machine.within machine.lawful step.held (send_wish to bytes) (send_call 0 ((to, first.id) ∷ []) bytes)
         (rw (place, slot) refl) short)
 
     pub may-send : IsHostCall before.parts before.history crew.grant.user (calls.Say (say.Send 0 batch))
     may-send = record {
       inner = send_call 0 (targets_of batch) (bytes_of batch);
       is = refl;
-      fits = subst (λ call. IsFitting before.parts before.history crew.grant.user HOST (in_cube call)) (sym call-is) fits;
+      fits = subst (λ call. IsFitting before.parts before.history crew.grant.user HOST (cube_request call)) (sym call-is) fits;
     }
 
     module _ (behind : MachineFacts) (host : Host) (crew' : CrewFacts) (reply : Reply Box)
-        (called : HasCalled before behind (record crew { host = host }) crew' (calls.Say (say.Send 0 batch)) reply) where
-      answered-so : what_of_request before.parts (after before.history) crew.grant.user HOST (in_cube call) ≡ Some called.exchange.what
-      answered-so = ap (λ call. what_of_request before.parts (after before.history) crew.grant.user HOST (in_cube call)) (sym call-is) ∙ called.exchange.answer
+        (called : HasHostCalled before behind (record crew { host = host }) crew' (calls.Say (say.Send 0 batch)) reply) where
+      answered-so : what_of_request before.parts (after before.history) crew.grant.user HOST (cube_request call) ≡ Some called.exchange.what
+      answered-so = ap (λ call. what_of_request before.parts (after before.history) crew.grant.user HOST (cube_request call)) (sym call-is) ∙ called.exchange.answer
 
       abbrev sent : What
       sent = whats.Send 0 (cube_standing (after before.history) step.held.cube).parcel_count ((place_outward step.held.cube.grant.sub to, goes.block.id) ∷ []) bytes
@@ -160,29 +160,29 @@ module _ (before : MachineFacts) (crew : CrewFacts) (machine : IsLawfulMachine b
       abbrev items : List Item
       items = actor_items (after before.history) step.held.cube HOST
 
-      heard-sent : IsHeard items sent reply
+      heard-sent : IsHearingReply items sent reply
       heard-sent =
-          subst (λ held. IsSomeAnd held (λ cube. IsHeard (actor_items (after before.history) cube HOST) sent reply)) step.held.held
-          (subst (λ what. IsReplyTo home_of IsClean before.parts (after before.history) crew.grant.user HOST what reply) (sym sent-is) called.exchange.reply_is)
+          subst (λ held. IsSomeAnd held (λ cube. IsHearingReply (actor_items (after before.history) cube HOST) sent reply)) step.held.held
+          (subst (λ what. IsReplyTo home_of IsCleanBox before.parts (after before.history) crew.grant.user HOST what reply) (sym sent-is) called.exchange.reply_is)
 
-      reply-by : (reply : Reply Box) → IsHeard items sent reply → reply ≡ replies.Heard (Posted [])
-      reply-by (replies.Heard heard) is = ap replies.Heard is
+      reply-by : (reply : Reply Box) → IsHearingReply items sent reply → reply ≡ replies.Heard (Posted [])
+      reply-by (replies.Heard hearing) is = ap replies.Heard is
       reply-by other is = absurd is
 
       pub send-reply : reply ≡ replies.Heard (Posted [])
       send-reply = reply-by reply heard-sent
 
       -- its batch comes back empty
-      pub heard-posted : (heard : Hearing) → reply ≡ replies.Heard heard → heard ≡ Posted []
-      heard-posted heard e = ap (heard-or heard) (sym e ∙ send-reply)
+      pub heard-posted : (hearing : Hearing) → reply ≡ replies.Heard hearing → hearing ≡ Posted []
+      heard-posted hearing e = ap (hearing-or hearing) (sym e ∙ send-reply)
 
       module _ (rest : host.store.blocks ≡ drop 1 crew.host.store.blocks) (room : host.store.spare ≡ crew.host.store.spare + 1)
           (other : Host) (regained : other ≡ record crew'.host { spare = Some [] }) where
         abbrev entry : Entry
-        entry = of_host crew.grant.user sent
+        entry = host_entry crew.grant.user sent
 
         history-is : behind.history ≡ before.history ++ entry ∷ []
-        history-is = called.exchange.history ∙ ap (λ what. before.history ++ of_host crew.grant.user what ∷ []) (sym sent-is)
+        history-is = called.exchange.history ∙ ap (λ what. before.history ++ host_entry crew.grant.user what ∷ []) (sym sent-is)
 
         store-behind : trace_store before.parts behind.history crew.grant.number grant ≡ first.rest
         store-behind =
@@ -191,7 +191,7 @@ module _ (before : MachineFacts) (crew : CrewFacts) (machine : IsLawfulMachine b
             (record {
               user = refl;
               actor_is = refl;
-              what = ap (λ call. what_of_request before.parts (after before.history) crew.grant.user HOST (in_cube call)) call-outward ∙ answered-so ∙ ap Some (sym sent-is);
+              what = ap (λ call. what_of_request before.parts (after before.history) crew.grant.user HOST (cube_request call)) call-outward ∙ answered-so ∙ ap Some (sym sent-is);
             })
             ∙ ap (drop 1) first.store_is
 
@@ -218,9 +218,9 @@ module _ (before : MachineFacts) (crew : CrewFacts) (machine : IsLawfulMachine b
 
         pub sent-done : (kind : RoundKind) → HasDone kind before behind crew.grant.user (Send to bytes) answers.Ok (own_crew (record crew' { host = other }))
         sent-done kind =
-            done-by kind before behind (record crew { host = host }) (record crew' { host = other }) (of_host crew.grant.user called.exchange.what ∷ []) (Send to bytes) answers.Ok
+            done-by kind before behind (record crew { host = host }) (record crew' { host = other }) (host_entry crew.grant.user called.exchange.what ∷ []) (Send to bytes) answers.Ok
             (gone-on-with kind before behind (record crew { host = host }) crew' (calls.Say (say.Send 0 batch)) reply machine step.held may-send called other stands)
             (inr refl)
-            (asked kind before.parts before.history crew.grant.user (Send to bytes) goes.block.id (in_cube call) called.exchange.what answers.Ok machine.within machine.lawful refl
+            (asked kind before.parts before.history crew.grant.user (Send to bytes) goes.block.id (cube_request call) called.exchange.what answers.Ok machine.within machine.lawful refl
             (record { fits = fits; answer = answered-so })
             (subst (λ what. entry_reply before.parts (after before.history) what ≡ Some answers.Ok) sent-is refl))

@@ -14,7 +14,7 @@ use Rattle.ce_model.specs.Answers.{answer, recorded_call}
 use Rattle.ce_model.specs.Cube.{opening, state, store_after, hoststore}
 use Rattle.ce_model.specs.Renaming.{CubeGrant, block_outward, renamed_what, entry_inward}
 use Rattle.ce_model.specs.Views.{view}
-use Rattle.ce_model.specs.Machine.{MachineParts, IsMachine, IsLawful, IsLawfulEntry, HeldCube, MachineState, after, cube_held_by, nodes_of, cube_standing, with_places_outward, peek, in_cube, what_of_request, cube_of}
+use Rattle.ce_model.specs.Machine.{MachineParts, IsMachine, IsLawful, IsLawfulEntry, HeldCube, MachineState, after, cube_held_by, nodes_of, cube_standing, with_places_outward, peek, cube_request, what_of_request, cube_of}
 use Rattle.ce_model.proofs.AloneByEntries.{call_of-answer}
 use Rattle.ce_model.proofs.OneMore.{hoststore-more}
 use Rattle.ce_solo.proofs.Projection.Law.{after-more}
@@ -23,18 +23,18 @@ use Rattle.ce_machine.specs.Meanings.{MachineFacts}
 use Rattle.ce_machine.specs.declared.call.Call.{Call}
 use Rattle.ce_machine.specs.declared.call.Reply.{Reply}
 use Rattle.ce_machine.specs.declared.call.Reply.TheVariants as replies
-use Rattle.ce_machine.specs.Replies.{IsHeard, OfHeldCube, actor_items, IsReplyTo}
-use Rattle.rk_node.specs.Boxes.{IsClean}
+use Rattle.ce_machine.specs.Replies.{IsHearingReply, OfHeldCube, actor_items, IsReplyTo}
+use Rattle.rk_node.specs.Boxes.{IsCleanBox}
 use Rattle.rk_mail.specs.declared.talk.Hearing.{Hearing}
-use Rattle.rk_mail.specs.declared.talk.Hearing.TheVariants as hearing
-use Rattle.rk_mail.specs.Talk.{IsHeardIn, kill_hearing}
-use Rattle.ce_model.specs.declared.entry.KillFound.{KillFound}
-use Rattle.ce_model.specs.declared.entry.KillFound.TheVariants as kill_found
+use Rattle.rk_mail.specs.declared.talk.Hearing.TheVariants as hearings
+use Rattle.rk_mail.specs.Talk.{IsHearingOfEntry, kill_hearing}
+use Rattle.ce_model.specs.declared.entry.KillResult.{KillResult}
+use Rattle.ce_model.specs.declared.entry.KillResult.TheVariants as kill_result
 use Rattle.ce_host.specs.declared.command.Command.{Command}
 use Rattle.ce_host.specs.declared.command.Command.TheVariants.{Getcube, Peek}
 use Rattle.ce_host.specs.declared.answer.Answer.{Answer}
 use Rattle.ce_cube.specs.Boxes.{IsHeldAs, IsInStep, trace_store}
-use Rattle.ce_cube.specs.Crews.{IsLawfulMachine, IsHostInStep, IsCrewInStep, HasGoneOn, box_at, CrewFacts, AreCallsOf}
+use Rattle.ce_cube.specs.Crews.{IsLawfulMachine, IsHostInStep, IsCrewInStep, HasCrewGoneOn, box_at, CrewFacts, AreCallsOf}
 use Rattle.ce_daemon.specs.Peeks.{cube_grant}
 use Rattle.ce_cube.proofs.Adds.{others-keep}
 use Rattle.ce_cube.proofs.Fronts.{mix-calls}
@@ -44,19 +44,19 @@ use Rattle.std.specs.Prelude.{Result, Ok, Err, IfOk}
 use Rattle.std.proofs.lemmas.Bool.{lt-ltb}
 use Rattle.ce_model.specs.Limits.{greatest_count}
 use Rattle.ce_model.specs.Node.{is_place}
-use Rattle.ce_model.specs.Cube.{start_image, end_process, allow, look_round, take_message}
-use Rattle.ce_model.specs.Literals.{of_host}
+use Rattle.ce_model.specs.Cube.{spawn_wish, kill_wish, arm_wish, look_wish, mail_wish}
+use Rattle.ce_model.specs.Literals.{host_entry}
 use Rattle.ce_machine.specs.declared.call.Call.TheVariants as calls
 use Rattle.rk_mail.specs.declared.talk.Say.TheVariants as say
 use Rattle.ce_cube.proofs.Hosts.{hosts-fit}
 use Rattle.ce_record.specs.Asked.{wants_cube, command_place}
 use Rattle.ce_record.proofs.AtOnce.{no_place}
 use Rattle.ce_script.specs.Commands.{kill_reply}
-use Rattle.ce_record.specs.Asked.{command_request, entry_reply, heard_reply}
+use Rattle.ce_record.specs.Asked.{command_request, entry_reply, hearing_reply}
 use Rattle.ce_record.specs.Run.{IsNextCommand}
 use Rattle.ce_record.proofs.Asked.{asked}
 use Rattle.ce_run.specs.UserStates.{HasDone, IsUserAt, free_host, own_crew, UserFacts}
-use Rattle.ce_run.specs.Asking.{home_of, IsHostCall, IsStartOrEnd, AreNodesInStep, HasCalled}
+use Rattle.ce_run.specs.Asking.{home_of, IsHostCall, IsStartOrEnd, AreNodesInStep, HasHostCalled}
 
 -- ---- what stays
 
@@ -106,20 +106,20 @@ done-at-once kind before user command answer facts machine next state_is = recor
 
 module _ (before behind : MachineFacts) (user : ℕ) (machine : IsLawfulMachine before) (within : user < before.parts.users) where
   peeking : Entry
-  peeking = of_host user whats.Peek
+  peeking = host_entry user whats.Peek
 
-  peek-lawful : IsLawfulEntry before.parts before.history (of_host user whats.Peek)
+  peek-lawful : IsLawfulEntry before.parts before.history (host_entry user whats.Peek)
   peek-lawful = record { request = peek; fits = (within, refl); answer = refl }
 
-  pub state-beside-peek : (facts : UserFacts) → IsUserAt before.parts before.history user facts → IsUserAt before.parts (before.history ++ of_host user whats.Peek ∷ []) user facts
+  pub state-beside-peek : (facts : UserFacts) → IsUserAt before.parts before.history user facts → IsUserAt before.parts (before.history ++ host_entry user whats.Peek ∷ []) user facts
   state-beside-peek (free_host host) state_is =
-      (ap (λ state. cube_held_by state user) (after-more before.history (of_host user whats.Peek)) ∙ state_is.0, state_is.1)
+      (ap (λ state. cube_held_by state user) (after-more before.history (host_entry user whats.Peek)) ∙ state_is.0, state_is.1)
   state-beside-peek (own_crew crew) state_is =
-      let aside = others-keep before.parts before.history crew.grant.number (cube_grant crew.grant) machine.within machine.lawful state_is.1.held (of_host user whats.Peek)
+      let aside = others-keep before.parts before.history crew.grant.number (cube_grant crew.grant) machine.within machine.lawful state_is.1.held (host_entry user whats.Peek)
       peek-lawful (inr refl) in (
         state_is.0,
-        crew-keeps before.parts before.history (before.history ++ of_host user whats.Peek ∷ []) crew
-            (ap (λ state. cube_held_by state crew.grant.user) (after-more before.history (of_host user whats.Peek))) aside.trace state_is.1,
+        crew-keeps before.parts before.history (before.history ++ host_entry user whats.Peek ∷ []) crew
+            (ap (λ state. cube_held_by state crew.grant.user) (after-more before.history (host_entry user whats.Peek))) aside.trace state_is.1,
       )
 
 -- ---- calls of a cube
@@ -129,7 +129,7 @@ some-same a b e = cc
 
 -- what a call of a cube that is held is answered
 pub answer-is : (parts : MachineParts) (state : MachineState) (user : ℕ) (call : model.Call) (what : What) (cube : HeldCube) → cube_held_by state user ≡ Some cube
-    → what_of_request parts state user HOST (in_cube call) ≡ Some what
+    → what_of_request parts state user HOST (cube_request call) ≡ Some what
     → answer (nodes_of cube.grant) (cube_standing state cube) HOST (with_places_outward cube.grant call) ≡ what
 answer-is parts state user call what cube held e =
     some-same _ _ (sym (ap (option_map (λ (cube : HeldCube). answer (nodes_of cube.grant) (cube_standing state cube) HOST (with_places_outward cube.grant call))) held) ∙ e)
@@ -158,11 +158,11 @@ either-store false store store' same = refl
 
 module _ (before behind : MachineFacts) (crew crew' : CrewFacts) (call : Call Box) (reply : Reply Box) (machine : IsLawfulMachine before)
     (held : IsHeldAs before.history crew.grant.number (cube_grant crew.grant))
-    (host : IsHostCall before.parts before.history crew.grant.user call) (called : HasCalled before behind crew crew' call reply) where
+    (host : IsHostCall before.parts before.history crew.grant.user call) (called : HasHostCalled before behind crew crew' call reply) where
   abbrev grant : CubeGrant
   grant = cube_grant crew.grant
 
-  pub asked-inner : what_of_request before.parts (after before.history) crew.grant.user HOST (in_cube host.inner) ≡ Some called.exchange.what
+  pub asked-inner : what_of_request before.parts (after before.history) crew.grant.user HOST (cube_request host.inner) ≡ Some called.exchange.what
   asked-inner = ap (what_of_request before.parts (after before.history) crew.grant.user HOST) (sym host.is) ∙ called.exchange.answer
 
   pub what-is : answer (nodes_of held.cube.grant) (cube_standing (after before.history) held.cube) HOST (with_places_outward held.cube.grant host.inner) ≡ called.exchange.what
@@ -173,23 +173,23 @@ module _ (before behind : MachineFacts) (crew crew' : CrewFacts) (call : Call Bo
   store-kept keeps =
       let o = opening (cube_of before.parts.images grant) in
       let t = view before.history crew.grant.number in
-      let made = entry_inward crew.grant.sub (of_host crew.grant.user called.exchange.what) in
+      let made = entry_inward crew.grant.sub (host_entry crew.grant.user called.exchange.what) in
       ap (hoststore o) called.trace ∙ hoststore-more o t made
       ∙ either-store (made.actor == HOST) (hoststore o t) (store_after (waiting_items o.standing HOST t) (hoststore o t) made.what)
       (kept-store _ _ (waiting_items o.standing HOST t) (hoststore o t) called.exchange.what keeps)
 
   pub gone-on : (kind : RoundKind) → IsHostInStep before.parts behind.history crew.grant crew'.host
-      → HasGoneOn kind before behind crew crew' (of_host crew.grant.user called.exchange.what ∷ [])
+      → HasCrewGoneOn kind before behind crew crew' (host_entry crew.grant.user called.exchange.what ∷ [])
   gone-on kind stands =
       let to_parts = sym called.exchange.parts in
       let grant_is = ap (λ (c : CrewFacts). c.grant) called.crew_is in
-      let of_cube : AreCallsOf crew.grant.user (of_host crew.grant.user called.exchange.what ∷ []) =
+      let of_cube : AreCallsOf crew.grant.user (host_entry crew.grant.user called.exchange.what ∷ []) =
       ((refl, ap (λ what. is_some (recorded_call what)) (sym what-is) ∙ answers-call _ _ HOST (with_places_outward held.cube.grant host.inner)), tt) in
       record {
-        all_entries = of_host crew.grant.user called.exchange.what ∷ [];
+        all_entries = host_entry crew.grant.user called.exchange.what ∷ [];
         parts = called.exchange.parts;
         history = called.exchange.history;
-        mix = mix-calls kind crew.grant.user (of_host crew.grant.user called.exchange.what ∷ []) of_cube;
+        mix = mix-calls kind crew.grant.user (host_entry crew.grant.user called.exchange.what ∷ []) of_cube;
         lawful = subst (λ parts. IsLawful parts behind.history) to_parts called.exchange.lawful;
         calls = of_cube;
         grant = grant_is;
@@ -204,7 +204,7 @@ module _ (before behind : MachineFacts) (crew crew' : CrewFacts) (call : Call Bo
 
   -- the host stands as it did where its store stays
   pub gone-on-kept : (kind : RoundKind) → IsHostInStep before.parts before.history crew.grant crew.host → IsKeepingStore called.exchange.what
-      → HasGoneOn kind before behind crew crew' (of_host crew.grant.user called.exchange.what ∷ [])
+      → HasCrewGoneOn kind before behind crew crew' (host_entry crew.grant.user called.exchange.what ∷ [])
   gone-on-kept kind stands keeps =
       gone-on kind (subst (λ host. IsHostInStep before.parts behind.history crew.grant host) (sym (ap (λ (c : CrewFacts). c.host) called.crew_is)) (record {
         blocks = stands.blocks ∙ ap (map (block_outward grant)) (sym (store-kept keeps));
@@ -214,7 +214,7 @@ module _ (before behind : MachineFacts) (crew crew' : CrewFacts) (call : Call Bo
 
 -- a command was carried out by calls of the crew
 pub done-by : (kind : RoundKind) (before behind : MachineFacts) (crew crew' : CrewFacts) (made : List Entry) (command : Command) (answer : Answer)
-    (goes : HasGoneOn kind before behind crew crew' made) → (goes.all_entries ≡ made) ⊎ IsTrue (wants_cube command)
+    (goes : HasCrewGoneOn kind before behind crew crew' made) → (goes.all_entries ≡ made) ⊎ IsTrue (wants_cube command)
     → IsNextCommand kind before.parts before.history crew.grant.user command answer made
     → HasDone kind before behind crew.grant.user command answer (own_crew crew')
 done-by kind before behind crew crew' made command answer goes whole next = record {
@@ -230,7 +230,7 @@ done-by kind before behind crew crew' made command answer goes whole next = reco
 }
 
 -- what asks for a call of a cube wants one
-wants-called : (command : Command) (id : BlockId) (call : model.Call) → command_request id command ≡ Some (in_cube call) → IsTrue (wants_cube command)
+wants-called : (command : Command) (id : BlockId) (call : model.Call) → command_request id command ≡ Some (cube_request call) → IsTrue (wants_cube command)
 wants-called (Getcube dim) id call is = absurd (cc)
 wants-called Peek id call is = absurd (cc)
 wants-called other id call is = refl
@@ -238,71 +238,71 @@ wants-called other id call is = refl
 -- ---- what a host is told that starts or ends a process
 
 -- an entry by which a process is started or ended
-abbrev pub IsToldOf : What → Type 0
-IsToldOf (whats.Spawn pid image to fresh) = Unit {0}
-IsToldOf (whats.Kill pid to found) = Unit {0}
-IsToldOf other = ⊥
+abbrev pub IsReplyAtOnce : What → Type 0
+IsReplyAtOnce (whats.Spawn pid image to fresh) = Unit {0}
+IsReplyAtOnce (whats.Kill pid to found) = Unit {0}
+IsReplyAtOnce other = ⊥
 
-told-answer : (nodes : List ℕ) (standing : Standing) (own : CubeGrant) (call : model.Call) → IsStartOrEnd call → IsToldOf (answer nodes standing HOST (with_places_outward own call))
+told-answer : (nodes : List ℕ) (standing : Standing) (own : CubeGrant) (call : model.Call) → IsStartOrEnd call → IsReplyAtOnce (answer nodes standing HOST (with_places_outward own call))
 unfolding answer
 told-answer nodes standing own (spawn_call pid image to) is = tt
 told-answer nodes standing own (kill_call pid to) is = tt
 told-answer nodes standing own other is = absurd is
 
-told-keeps : (what : What) → IsToldOf what → IsKeepingStore what
+told-keeps : (what : What) → IsReplyAtOnce what → IsKeepingStore what
 told-keeps (whats.Spawn pid image to fresh) is = tt
 told-keeps (whats.Kill pid to found) is = tt
 told-keeps other is = absurd is
 
 -- the reply to such an entry is what was heard
 abbrev HasHeard : List Item → What → Reply Box → Type 0
-HasHeard items what reply = (heard : Hearing) × (reply ≡ replies.Heard heard) × IsHeardIn items what heard
+HasHeard items what reply = (hearing : Hearing) × (reply ≡ replies.Heard hearing) × IsHearingOfEntry items what hearing
 
-heard-parts : (items : List Item) (what : What) (reply : Reply Box) → IsHeard items what reply → HasHeard items what reply
-heard-parts items what (replies.Heard heard) is = (heard, refl, is)
+heard-parts : (items : List Item) (what : What) (reply : Reply Box) → IsHearingReply items what reply → HasHeard items what reply
+heard-parts items what (replies.Heard hearing) is = (hearing, refl, is)
 heard-parts items what other is = absurd is
 
-told-reply : (parts : MachineParts) (state : MachineState) (user actor : ℕ) (what : What) (reply : Reply Box) → IsToldOf what → IsReplyTo home_of IsClean parts state user actor what reply
-    → OfHeldCube state user (λ cube. IsHeard (actor_items state cube actor) what reply)
+told-reply : (parts : MachineParts) (state : MachineState) (user actor : ℕ) (what : What) (reply : Reply Box) → IsReplyAtOnce what → IsReplyTo home_of IsCleanBox parts state user actor what reply
+    → OfHeldCube state user (λ cube. IsHearingReply (actor_items state cube actor) what reply)
 told-reply parts state user actor (whats.Spawn pid image to fresh) reply of is = is
 told-reply parts state user actor (whats.Kill pid to found) reply of is = is
 told-reply parts state user actor other reply of is = absurd of
 
-spawned-some : (fresh : Bool) (heard : Hearing) → heard ≡ (if fresh then hearing.Spawned else hearing.Used) → IsTrue (is_some (heard_reply heard))
-spawned-some true heard e = ap (λ h. is_some (heard_reply h)) e
-spawned-some false heard e = ap (λ h. is_some (heard_reply h)) e
+spawned-some : (fresh : Bool) (hearing : Hearing) → hearing ≡ (if fresh then hearings.Spawned else hearings.Used) → IsTrue (is_some (hearing_reply hearing))
+spawned-some true hearing e = ap (λ h. is_some (hearing_reply h)) e
+spawned-some false hearing e = ap (λ h. is_some (hearing_reply h)) e
 
-killed-some : (found : KillFound) (heard : Hearing) → heard ≡ kill_hearing found → IsTrue (is_some (heard_reply heard))
-killed-some kill_found.Killed heard e = ap (λ h. is_some (heard_reply h)) e
-killed-some kill_found.Unused heard e = ap (λ h. is_some (heard_reply h)) e
-killed-some kill_found.Already heard e = ap (λ h. is_some (heard_reply h)) e
+killed-some : (found : KillResult) (hearing : Hearing) → hearing ≡ kill_hearing found → IsTrue (is_some (hearing_reply hearing))
+killed-some kill_result.Killed hearing e = ap (λ h. is_some (hearing_reply h)) e
+killed-some kill_result.Unused hearing e = ap (λ h. is_some (hearing_reply h)) e
+killed-some kill_result.Already hearing e = ap (λ h. is_some (hearing_reply h)) e
 
-pub told-some : (items : List Item) (what : What) (heard : Hearing) → IsToldOf what → IsHeardIn items what heard → IsTrue (is_some (heard_reply heard))
-told-some items (whats.Spawn pid image to fresh) heard of is = spawned-some fresh heard is
-told-some items (whats.Kill pid to found) heard of is = killed-some found heard is
-told-some items other heard of is = absurd of
+pub told-some : (items : List Item) (what : What) (hearing : Hearing) → IsReplyAtOnce what → IsHearingOfEntry items what hearing → IsTrue (is_some (hearing_reply hearing))
+told-some items (whats.Spawn pid image to fresh) hearing of is = spawned-some fresh hearing is
+told-some items (whats.Kill pid to found) hearing of is = killed-some found hearing is
+told-some items other hearing of is = absurd of
 
-spawned-reply : (fresh : Bool) (heard : Hearing) → heard ≡ (if fresh then hearing.Spawned else hearing.Used) → Some (if fresh then answers.Ok else answers.Used) ≡ heard_reply heard
-spawned-reply true heard e = ap heard_reply (sym e)
-spawned-reply false heard e = ap heard_reply (sym e)
+spawned-reply : (fresh : Bool) (hearing : Hearing) → hearing ≡ (if fresh then hearings.Spawned else hearings.Used) → Some (if fresh then answers.Ok else answers.Used) ≡ hearing_reply hearing
+spawned-reply true hearing e = ap hearing_reply (sym e)
+spawned-reply false hearing e = ap hearing_reply (sym e)
 
-killed-reply : (found : KillFound) (heard : Hearing) → heard ≡ kill_hearing found → Some (kill_reply found) ≡ heard_reply heard
-killed-reply kill_found.Killed heard e = ap heard_reply (sym e)
-killed-reply kill_found.Unused heard e = ap heard_reply (sym e)
-killed-reply kill_found.Already heard e = ap heard_reply (sym e)
+killed-reply : (found : KillResult) (hearing : Hearing) → hearing ≡ kill_hearing found → Some (kill_reply found) ≡ hearing_reply hearing
+killed-reply kill_result.Killed hearing e = ap hearing_reply (sym e)
+killed-reply kill_result.Unused hearing e = ap hearing_reply (sym e)
+killed-reply kill_result.Already hearing e = ap hearing_reply (sym e)
 
-told-replies : (parts : MachineParts) (state : MachineState) (items : List Item) (what : What) (heard : Hearing) → IsToldOf what → IsHeardIn items what heard
-    → entry_reply parts state what ≡ heard_reply heard
-told-replies parts state items (whats.Spawn pid image to fresh) heard of is = spawned-reply fresh heard is
-told-replies parts state items (whats.Kill pid to found) heard of is = killed-reply found heard is
-told-replies parts state items other heard of is = absurd of
+told-replies : (parts : MachineParts) (state : MachineState) (items : List Item) (what : What) (hearing : Hearing) → IsReplyAtOnce what → IsHearingOfEntry items what hearing
+    → entry_reply parts state what ≡ hearing_reply hearing
+told-replies parts state items (whats.Spawn pid image to fresh) hearing of is = spawned-reply fresh hearing is
+told-replies parts state items (whats.Kill pid to found) hearing of is = killed-reply found hearing is
+told-replies parts state items other hearing of is = absurd of
 
 module _ (before behind : MachineFacts) (crew crew' : CrewFacts) (call : Call Box) (reply : Reply Box) (machine : IsLawfulMachine before)
     (step : IsCrewInStep before.parts before.history crew)
-    (host : IsHostCall before.parts before.history crew.grant.user call) (called : HasCalled before behind crew crew' call reply) where
-  pub what-told : IsStartOrEnd host.inner → IsToldOf called.exchange.what
+    (host : IsHostCall before.parts before.history crew.grant.user call) (called : HasHostCalled before behind crew crew' call reply) where
+  pub what-told : IsStartOrEnd host.inner → IsReplyAtOnce called.exchange.what
   what-told of =
-      subst IsToldOf (what-is before behind crew crew' call reply machine step.held host called)
+      subst IsReplyAtOnce (what-is before behind crew crew' call reply machine step.held host called)
       (told-answer _ _ step.held.cube.grant host.inner of)
 
   abbrev items : List Item
@@ -311,41 +311,41 @@ module _ (before behind : MachineFacts) (crew crew' : CrewFacts) (call : Call Bo
   pub heard-told : IsStartOrEnd host.inner → HasHeard items called.exchange.what reply
   heard-told of =
       heard-parts items called.exchange.what reply
-      (subst (λ held. IsSomeAnd held (λ cube. IsHeard (actor_items (after before.history) cube HOST) called.exchange.what reply)) step.held.held
+      (subst (λ held. IsSomeAnd held (λ cube. IsHearingReply (actor_items (after before.history) cube HOST) called.exchange.what reply)) step.held.held
       (told-reply before.parts (after before.history) crew.grant.user HOST called.exchange.what reply (what-told of) called.exchange.reply_is))
 
-  pub told-done : (kind : RoundKind) (heard : Hearing) (answer : Answer) → IsStartOrEnd host.inner → IsHeardIn items called.exchange.what heard → heard_reply heard ≡ Some answer
-      → (command : Command) (id : BlockId) → command_request id command ≡ Some (in_cube host.inner)
+  pub told-done : (kind : RoundKind) (hearing : Hearing) (answer : Answer) → IsStartOrEnd host.inner → IsHearingOfEntry items called.exchange.what hearing → hearing_reply hearing ≡ Some answer
+      → (command : Command) (id : BlockId) → command_request id command ≡ Some (cube_request host.inner)
       → HasDone kind before behind crew.grant.user command answer (own_crew crew')
-  told-done kind heard answer of is told command id request =
-      done-by kind before behind crew crew' (of_host crew.grant.user called.exchange.what ∷ []) command answer
+  told-done kind hearing answer of is told command id request =
+      done-by kind before behind crew crew' (host_entry crew.grant.user called.exchange.what ∷ []) command answer
       (gone-on-kept before behind crew crew' call reply machine step.held host called kind step.host (told-keeps called.exchange.what (what-told of)))
       (inr (wants-called command id host.inner request))
-      (asked kind before.parts before.history crew.grant.user command id (in_cube host.inner) called.exchange.what answer machine.within machine.lawful request
+      (asked kind before.parts before.history crew.grant.user command id (cube_request host.inner) called.exchange.what answer machine.within machine.lawful request
       (record { fits = host.fits; answer = asked-inner before behind crew crew' call reply machine step.held host called })
-      (told-replies before.parts (after before.history) items called.exchange.what heard (what-told of) is ∙ told))
+      (told-replies before.parts (after before.history) items called.exchange.what hearing (what-told of) is ∙ told))
 
 -- what a reply has that was heard
-abbrev pub heard-or : Hearing → Reply Box → Hearing
-heard-or none (replies.Heard heard) = heard
-heard-or none other = none
+abbrev pub hearing-or : Hearing → Reply Box → Hearing
+hearing-or none (replies.Heard hearing) = hearing
+hearing-or none other = none
 
-pub inner-same : (a b : model.Call) → in_cube a ≡ in_cube b → a ≡ b
+pub inner-same : (a b : model.Call) → cube_request a ≡ cube_request b → a ≡ b
 inner-same a b e = cc
 
 module _ (before behind : MachineFacts) (crew crew' : CrewFacts) (call : Call Box) (reply : Reply Box) (machine : IsLawfulMachine before)
     (step : IsCrewInStep before.parts before.history crew)
-    (host : IsHostCall before.parts before.history crew.grant.user call) (called : HasCalled before behind crew crew' call reply) where
-  pub heard-as : (heard : Hearing) → reply ≡ replies.Heard heard → IsStartOrEnd host.inner
-      → IsHeardIn (actor_items (after before.history) step.held.cube HOST) called.exchange.what heard
-  heard-as heard is of =
+    (host : IsHostCall before.parts before.history crew.grant.user call) (called : HasHostCalled before behind crew crew' call reply) where
+  pub heard-as : (hearing : Hearing) → reply ≡ replies.Heard hearing → IsStartOrEnd host.inner
+      → IsHearingOfEntry (actor_items (after before.history) step.held.cube HOST) called.exchange.what hearing
+  heard-as hearing is of =
       let told = heard-told before behind crew crew' call reply machine step host called of in
-      subst (IsHeardIn (actor_items (after before.history) step.held.cube HOST) called.exchange.what) (ap (heard-or heard) (sym told.1 ∙ is)) told.2
+      subst (IsHearingOfEntry (actor_items (after before.history) step.held.cube HOST) called.exchange.what) (ap (hearing-or hearing) (sym told.1 ∙ is)) told.2
 
-  pub reply-some : (heard : Hearing) → reply ≡ replies.Heard heard → IsStartOrEnd host.inner → IsTrue (is_some (heard_reply heard))
-  reply-some heard is of =
-      told-some (actor_items (after before.history) step.held.cube HOST) called.exchange.what heard
-      (what-told before behind crew crew' call reply machine step host called of) (heard-as heard is of)
+  pub reply-some : (hearing : Hearing) → reply ≡ replies.Heard hearing → IsStartOrEnd host.inner → IsTrue (is_some (hearing_reply hearing))
+  reply-some hearing is of =
+      told-some (actor_items (after before.history) step.held.cube HOST) called.exchange.what hearing
+      (what-told before behind crew crew' call reply machine step host called of) (heard-as hearing is of)
 
 pub if-ok : {A E : Type 0} (r : Result A E) (P Q : A → Type 0) → ((a : A) → P a → Q a) → IfOk r P → IfOk r Q
 if-ok (Ok a) P Q f p = f a p
@@ -371,33 +371,33 @@ module _ (parts : MachineParts) (history : List Entry) (crew : CrewFacts) (machi
       record {
         inner = spawn_call 0 image to;
         is = refl;
-        fits = hosts-fit parts history crew.grant.number (cube_grant crew.grant) machine lawful held (start_image image to) (spawn_call 0 image to) (rw (place, listed) refl) tt;
+        fits = hosts-fit parts history crew.grant.number (cube_grant crew.grant) machine lawful held (spawn_wish image to) (spawn_call 0 image to) (rw (place, listed) refl) tt;
       }
 
   pub may-end : (to : Place) → is_place crew.grant.dim to ≡ true → IsHostCall parts history crew.grant.user (calls.Say (say.Kill 0 to))
   may-end to place = record {
     inner = kill_call 0 to;
     is = refl;
-    fits = hosts-fit parts history crew.grant.number (cube_grant crew.grant) machine lawful held (end_process to) (kill_call 0 to) (rw place refl) tt;
+    fits = hosts-fit parts history crew.grant.number (cube_grant crew.grant) machine lawful held (kill_wish to) (kill_call 0 to) (rw place refl) tt;
   }
 
   pub may-allow : (count : ℕ) → count ≤ greatest_count → IsHostCall parts history crew.grant.user (calls.Arm count)
   may-allow count within = record {
     inner = arm_call count;
     is = refl;
-    fits = hosts-fit parts history crew.grant.number (cube_grant crew.grant) machine lawful held (allow count) (arm_call count) refl within;
+    fits = hosts-fit parts history crew.grant.number (cube_grant crew.grant) machine lawful held (arm_wish count) (arm_call count) refl within;
   }
 
   pub may-look : IsHostCall parts history crew.grant.user calls.Look
   may-look = record {
     inner = look_call;
     is = refl;
-    fits = hosts-fit parts history crew.grant.number (cube_grant crew.grant) machine lawful held look_round look_call refl tt;
+    fits = hosts-fit parts history crew.grant.number (cube_grant crew.grant) machine lawful held look_wish look_call refl tt;
   }
 
   pub may-take : IsHostCall parts history crew.grant.user calls.HostTake
   may-take = record {
     inner = mail_call;
     is = refl;
-    fits = hosts-fit parts history crew.grant.number (cube_grant crew.grant) machine lawful held take_message mail_call refl tt;
+    fits = hosts-fit parts history crew.grant.number (cube_grant crew.grant) machine lawful held mail_wish mail_call refl tt;
   }

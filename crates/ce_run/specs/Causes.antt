@@ -1,7 +1,7 @@
 -- Why a run ended as it did.
 use Rattle.std.specs.Prelude.{◌≡◌, ℕ, List, Option, Some, None, true, take}
 use Rattle.std.specs.Io.KnownBytes.{append_known}
-use Rattle.ce_words.specs.Line.{IsCommandLine, asked_line}
+use Rattle.ce_words.specs.Line.{IsCommandLine, line_of_words}
 use Rattle.ce_run.specs.declared.run_end.RunFault.{RunFault}
 use Rattle.ce_run.specs.declared.run_end.RunFault.TheVariants.{Usage, Write, Memory}
 use Rattle.ce_run.specs.Fault.{status_of}
@@ -9,7 +9,7 @@ use Rattle.ce_run.specs.Fault.{status_of}
 -- the words are a line that the program takes, and it asks for a run on one thread
 pub record IsServed (words : List (List ℕ)) : Type 0 where
   pub accepted : IsCommandLine words
-  pub serial : (asked_line words).is_serial ≡ true
+  pub serial : (line_of_words words).is_serial ≡ true
 
 -- the exit status
 abbrev pub status_of_end : Option RunFault → ℕ
@@ -34,6 +34,7 @@ IsReadingFault other = Unit {0}
 
 -- what was written at the end: the whole text, or, where the sink failed, a front part of it
 abbrev pub HasReported : Option RunFault → List ℕ → Option (List ℕ) → Option (List ℕ) → Type 0
-HasReported None text before now = now ≡ append_known before text
-HasReported (Some Write) text before now = (n : ℕ) × (now ≡ append_known before (take n text))
-HasReported (Some other) text before now = ⊥
+HasReported None text old_bytes new_bytes = new_bytes ≡ append_known old_bytes text
+HasReported (Some Write) text old_bytes new_bytes =
+    (n : ℕ) × (new_bytes ≡ append_known old_bytes (take n text))
+HasReported (Some other) text old_bytes new_bytes = ⊥

@@ -18,7 +18,8 @@ status_of Write = 5
 -- what is written about a fault
 abbrev pub line_of : RunFault → List ℕ
 line_of TooLong = codes "ce: script too long" ++ line_feed ∷ []
-line_of (Script fault) = codes "ce: line " ++ (decimal fault.line ++ (codes ": " ++ (kind_text fault.kind ++ line_feed ∷ [])))
+line_of (Script fault) = codes "ce: line "
+    ++ (decimal fault.line ++ (codes ": " ++ (kind_text fault.kind ++ line_feed ∷ [])))
 line_of Usage = codes "ce: usage: ce [--serial] [--load N]" ++ line_feed ∷ []
 line_of Read = codes "ce: read fault" ++ line_feed ∷ []
 line_of Write = codes "ce: write fault" ++ line_feed ∷ []

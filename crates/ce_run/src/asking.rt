@@ -2,9 +2,9 @@
 ghost use Rattle.std.specs.Prelude.{◌≡◌, IfOk};
 ghost use Rattle.ce_model.specs.declared.topology.TheConstants.{HOST};
 ghost use Rattle.ce_machine.specs.Requests.{IsFittingCall};
-ghost use Rattle.rk_node.specs.Boxes.{IsClean};
+ghost use Rattle.rk_node.specs.Boxes.{IsCleanBox};
 ghost use Rattle.ce_cube.specs.Crews.{IsLawfulMachine, serial_facts};
-ghost use Rattle.ce_run.specs.Asking.{home_of, HasAsked, HasCalled, AreNodesInStep, IsHostCall};
+ghost use Rattle.ce_run.specs.Asking.{home_of, HasAsked, HasHostCalled, AreNodesInStep, IsHostCall};
 
 use ce_cube::SerialCrew;
 use ce_lock::{Kept, Who};
@@ -21,7 +21,7 @@ pub(crate) fn ask(
     call: Call<NodeBox>,
 ) -> Result<Reply<NodeBox>, NoMemory>
     requires machine { IsLawfulMachine machine.old }
-    requires fits { IsFittingCall home_of IsClean machine.old.parts machine.old.history
+    requires fits { IsFittingCall home_of IsCleanBox machine.old.parts machine.old.history
         (record { family = user; actor = HOST }) call }
     ensures { IfOk result (HasAsked machine.old machine.new user call) }
 {
@@ -35,8 +35,8 @@ pub(crate) fn ask(
     }
 }
 
-/// What the machine answers the host of a crew, which makes a call of its cube. `NoMemory` may come at any time; the crew
-/// isn't used again then.
+/// What the machine answers the host of a crew, which makes a call of its cube. `NoMemory` may come
+/// at any time; the crew isn't used again then.
 pub(crate) fn ask_in_cube(
     alloc: Global,
     machine: &mut Machine<NodeBox>,
@@ -46,7 +46,7 @@ pub(crate) fn ask_in_cube(
     requires machine { IsLawfulMachine machine.old }
     requires nodes { AreNodesInStep machine.old.parts machine.old.history (serial_facts crew.old) }
     requires call { IsHostCall machine.old.parts machine.old.history crew.old.grant.user call }
-    ensures { IfOk result (HasCalled machine.old machine.new
+    ensures { IfOk result (HasHostCalled machine.old machine.new
         (serial_facts crew.old) (serial_facts crew.new) call) }
 {
     let reply = ask(alloc, machine, crew.grant.user, call)?;

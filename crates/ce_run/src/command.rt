@@ -5,7 +5,7 @@ ghost use Rattle.std.specs.IoError.{error_kind};
 ghost use Rattle.std.specs.declared.io.ErrorKind.TheVariants.{OutOfMemory};
 ghost use Rattle.ce_io.specs.Whole.{reading, writing};
 ghost use Rattle.ce_run.specs.Causes.{IsRunNoMemory, HasRunToEnd};
-ghost use Rattle.ce_run.specs.Promise.{HasRefusedWords, IsTold, IsPromised};
+ghost use Rattle.ce_run.specs.Promise.{HasRefusedWords, IsFaultTold, IsPromised};
 ghost use Rattle.ce_run.specs.declared.run_end.RunEnd.{RunEnd};
 ghost use Rattle.ce_run.specs.declared.run_end.RunFault.TheVariants.{Usage};
 
@@ -19,9 +19,10 @@ use std::io;
 use std::io::ErrorKind;
 use std::thread::Threads;
 
-/// Runs the script of `source` as the words of the command line say, writes the report to `sink` and the line of
-/// the fault, where there is one, to `errors`, and answers the exit status. Words that can't be read for want of
-/// memory end it as `Memory`; those that can't be read otherwise, as where one isn't text, are refused as `Usage`.
+/// Runs the script of `source` as the words of the command line say, writes the report to `sink`
+/// and the line of the fault, where there is one, to `errors`, and answers the exit status. Words
+/// that can't be read for want of memory end it as `Memory`; those that can't be read otherwise, as
+/// where one isn't text, are refused as `Usage`.
 pub fn run_command<R: Threads + Sync, S: Source, K: Sink, E: Sink, G: Gate>(
     rt: &R,
     alloc: Global,
@@ -33,7 +34,7 @@ pub fn run_command<R: Threads + Sync, S: Source, K: Sink, E: Sink, G: Gate>(
 ) -> u8
     // Of the end of a run, which answers the words, the status is answered, and the fault is told.
     ensures { (end : RunEnd) × (result ≡ end.status)
-        × IsTold end.fault (writing E.written E.faults errors.old errors.new)
+        × IsFaultTold end.fault (writing E.written E.faults errors.old errors.new)
         × MatchResult words
         (λ words. IsPromised (map string_bytes words.items)
         (reading S.left S.given S.faults source.old source.new)
@@ -63,9 +64,10 @@ fn words_fault(error: &io::Error) -> RunFault
     }
 }
 
-/// Writes the line of a fault. Where even this can't be written, the status still tells of the fault.
+/// Writes the line of a fault. Where even this can't be written, the status still tells of the
+/// fault.
 fn tell<E: Sink>(fault: Option<RunFault>, errors: &mut E)
-    ensures { IsTold fault (writing E.written E.faults errors.old errors.new) }
+    ensures { IsFaultTold fault (writing E.written E.faults errors.old errors.new) }
 {
     if let Some(fault) = fault {
         let _ = write_fault(&fault, errors);

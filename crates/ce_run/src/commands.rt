@@ -26,7 +26,8 @@ use sending::{end, send, start};
 use std::alloc::Global;
 use telling::status;
 
-/// Carries out a command of a user: what it is answered, and what the user has then. `NoMemory` may come at any time.
+/// Carries out a command of a user: what it is answered, and what the user has then. `NoMemory` may
+/// come at any time.
 pub(crate) fn carry_out(
     alloc: Global,
     machine: &mut Machine<NodeBox>,
@@ -39,17 +40,17 @@ pub(crate) fn carry_out(
     requires images { images.now ≡ machine.old.parts.images }
     requires user_state { IsUserStateAt machine.old.parts machine.old.history user user_state }
     requires command { IsCommandWithin (length machine.old.parts.images) command.now }
-    ensures { IfOk result (λ done.
-        HasDone serial machine.old machine.new user command.now done.1 (user_facts done.0)) }
+    ensures { IfOk result (λ outcome.
+        HasDone serial machine.old machine.new user command.now outcome.1 (user_facts outcome.0)) }
 {
     match user_state {
-        UserState::Free(host) => for_free(alloc, machine, images, user, host, command),
-        UserState::Holding(crew) => for_holder(alloc, machine, images, crew, command),
+        UserState::HomeHost(host) => carry_out_free(alloc, machine, images, user, host, command),
+        UserState::CubeCrew(crew) => carry_out_held(alloc, machine, images, crew, command),
     }
 }
 
 /// A command of a user who holds no cube.
-fn for_free(
+fn carry_out_free(
     alloc: Global,
     machine: &mut Machine<NodeBox>,
     images: &[Image],
@@ -59,21 +60,21 @@ fn for_free(
 ) -> Result<(UserState, Answer), NoMemory>
     requires ready { HasReadyUser machine.old images.now user host }
     requires command { IsCommandWithin (length machine.old.parts.images) command.now }
-    ensures { IfOk result (λ done.
-        HasDone serial machine.old machine.new user command.now done.1 (user_facts done.0)) }
+    ensures { IfOk result (λ outcome.
+        HasDone serial machine.old machine.new user command.now outcome.1 (user_facts outcome.0)) }
 {
     match command {
         Command::Getcube(dim) => get_cube(alloc, machine, images, user, host, *dim),
         Command::Peek => {
             let answer = peek(alloc, machine, user)?;
-            Ok((UserState::Free(host), answer))
+            Ok((UserState::HomeHost(host), answer))
         }
-        _ => Ok((UserState::Free(host), Answer::NoCube)),
+        _ => Ok((UserState::HomeHost(host), Answer::NoCube)),
     }
 }
 
 /// A command of a user who holds a cube.
-fn for_holder(
+fn carry_out_held(
     alloc: Global,
     machine: &mut Machine<NodeBox>,
     images: &[Image],
@@ -82,19 +83,19 @@ fn for_holder(
 ) -> Result<(UserState, Answer), NoMemory>
     requires ready { HasReadyCrew machine.old images.now (serial_facts crew) }
     requires command { IsCommandWithin (length machine.old.parts.images) command.now }
-    ensures { IfOk result (λ done.
-        HasDone serial machine.old machine.new crew.grant.user command.now done.1
-        (user_facts done.0)) }
+    ensures { IfOk result (λ outcome.
+        HasDone serial machine.old machine.new crew.grant.user command.now outcome.1
+        (user_facts outcome.0)) }
 {
     if let Command::Freecube = command {
         return free_cube(alloc, machine, crew);
     }
-    let answer = in_cube(alloc, machine, images, &mut crew, command)?;
-    Ok((UserState::Holding(crew), answer))
+    let answer = carry_out_in_cube(alloc, machine, images, &mut crew, command)?;
+    Ok((UserState::CubeCrew(crew), answer))
 }
 
 /// A command of a user who holds a cube, and holds it still behind the command.
-fn in_cube(
+fn carry_out_in_cube(
     alloc: Global,
     machine: &mut Machine<NodeBox>,
     images: &[Image],
@@ -122,7 +123,7 @@ fn in_cube(
             allow(alloc, machine, crew, *count)?;
             receive(alloc, machine, images, crew)
         }
-        Command::Dump(at) => Ok(status(crew, *at)),
+        Command::Dump(place) => Ok(status(crew, *place)),
         Command::Trace => Ok(Answer::Entries(crew.entries)),
         Command::Freecube => unreachable!(),
     }

@@ -3,13 +3,13 @@ ghost use Rattle.std.specs.Prelude.{◌≡◌, ◌↔◌, ◌⊎◌, ◌≤◌, 
 ghost use Rattle.std.specs.String.{string_bytes};
 ghost use Rattle.ce_io.specs.Faults.{HasRisen};
 ghost use Rattle.ce_io.specs.Whole.{reading, writing};
-ghost use Rattle.ce_words.specs.Line.{asked_line};
+ghost use Rattle.ce_words.specs.Line.{line_of_words};
 ghost use Rattle.ce_script.specs.Legal.{IsLegal};
 ghost use Rattle.ce_script.specs.Rounds.{serial};
 ghost use Rattle.ce_script.specs.Serial.{IsSerial};
 ghost use Rattle.ce_run.specs.Causes.{status_of_end, IsReadingFault, IsRunNoMemory, IsServed, HasRunToEnd, HasReported};
 ghost use Rattle.ce_run.specs.Fault.{status_of};
-ghost use Rattle.ce_run.specs.Promise.{IsPromised, HasEnded, HasReadScript, HasRun, HasFinished, IsComplete, text_of};
+ghost use Rattle.ce_run.specs.Promise.{IsPromised, HasEnded, HasReadScript, HasRun, HasFinished, IsComplete, run_text};
 ghost use Rattle.ce_script.specs.Load.{load};
 ghost use Rattle.ce_run.specs.declared.run_end.RunFault.TheVariants.{Read, Usage, Write};
 
@@ -24,11 +24,12 @@ use ce_words::{CommandLine, CommandLineError, read_line};
 use std::alloc::Global;
 use std::thread::Threads;
 
-/// Runs the script that the source gives, and writes the report to the sink; or the load of a number, and writes its
-/// summary. `words` are the words of the command line behind the program's name: `--serial`, and `--load N` for a load.
+/// Runs the script that the source gives, and writes the report to the sink; or the load of a
+/// number, and writes its summary. `words` are the words of the command line behind the program's
+/// name: `--serial`, and `--load N` for a load.
 ///
-/// Lines without `--serial` are refused as `Usage`: nothing runs on further threads yet, and the gate is not called. The
-/// faults are those of `RunFault`, and `HasEnded` says what each leaves.
+/// Lines without `--serial` are refused as `Usage`: nothing runs on further threads yet, and the
+/// gate is not called. The faults are those of `RunFault`, and `HasEnded` says what each leaves.
 pub fn top<R: Threads + Sync, S: Source, K: Sink, G: Gate>(
     _rt: &R,
     alloc: Global,
@@ -44,7 +45,8 @@ pub fn top<R: Threads + Sync, S: Source, K: Sink, G: Gate>(
     serial_call(alloc, words, source, sink)
 }
 
-/// Does what `top` does on lines with `--serial`, and refuses every other line as `Usage`. It always returns.
+/// Does what `top` does on lines with `--serial`, and refuses every other line as `Usage`. It
+/// always returns.
 pub fn serial_call<S: Source, K: Sink>(
     alloc: Global,
     words: &[String],
@@ -54,14 +56,14 @@ pub fn serial_call<S: Source, K: Sink>(
     ensures ended { HasEnded (map string_bytes words.now)
         (reading S.left S.given S.faults source.old source.new)
         (writing K.written K.faults sink.old sink.new) result }
-    ensures headline { IfSome result.kept (HasRun (asked_line (map string_bytes words.now))
+    ensures headline { IfSome result.kept (HasRun (line_of_words (map string_bytes words.now))
         (reading S.left S.given S.faults source.old source.new)
         (writing K.written K.faults sink.old sink.new) result.fault) }
     ensures complete { IsComplete (map string_bytes words.now)
         (reading S.left S.given S.faults source.old source.new)
         (writing K.written K.faults sink.old sink.new) result.fault }
 {
-    match load_asked(alloc, words) {
+    match load_of_words(alloc, words) {
         Err(fault) => refusal(fault),
         Ok(Some(seed)) => run_load(alloc, seed, sink),
         Ok(None) => match read_source(alloc, source) {
@@ -71,10 +73,11 @@ pub fn serial_call<S: Source, K: Sink>(
     }
 }
 
-/// The load that a line with `--serial` asks for, if it asks for one; other lines are refused as `Usage`.
-fn load_asked(alloc: Global, words: &[String]) -> Result<Option<u32>, RunFault>
+/// The load that a line with `--serial` asks for, if it asks for one; other lines are refused as
+/// `Usage`.
+fn load_of_words(alloc: Global, words: &[String]) -> Result<Option<u32>, RunFault>
     ensures served { IfOk result (λ _. IsServed (map string_bytes words.now)) }
-    ensures load { IfOk result (λ load. (asked_line (map string_bytes words.now)).load ≡ load) }
+    ensures load { IfOk result (λ load. (line_of_words (map string_bytes words.now)).load ≡ load) }
     ensures refused { IfErr result (λ fault. fault ≡ Usage
         → ¬ IsServed (map string_bytes words.now)) }
     ensures fault { IfErr result (λ fault. (fault ≡ Usage) ⊎ IsRunNoMemory (Some fault)) }
@@ -86,7 +89,7 @@ fn load_asked(alloc: Global, words: &[String]) -> Result<Option<u32>, RunFault>
                 load,
             },
         ) => Ok(load),
-        Ok(_) | Err(CommandLineError::Refused) => Err(RunFault::Usage),
+        Ok(_) | Err(CommandLineError::Usage) => Err(RunFault::Usage),
         Err(CommandLineError::Memory(fault)) => Err(RunFault::Memory(fault)),
     }
 }
@@ -140,15 +143,15 @@ fn read_source<S: Source>(alloc: Global, source: &mut S) -> Result<LimitedScript
 /// Runs a script and writes its report, or, where it is the load of a seed, the summary.
 fn run_script<K: Sink>(
     alloc: Global,
-    limited: &LimitedScript,
+    limited_script: &LimitedScript,
     seed: Option<u32>,
     sink: &mut K,
 ) -> RunEnd
-    ensures { HasFinished limited.now.script seed
+    ensures { HasFinished limited_script.now.script seed
         (writing K.written K.faults sink.old sink.new) result }
 {
-    match record_and_text(alloc, limited, seed) {
-        Ok((kept, text)) => write_text(kept, text, sink),
+    match record_and_text(alloc, limited_script, seed) {
+        Ok((run_record, text)) => write_text(run_record, text, sink),
         Err(fault) => refusal(RunFault::Memory(fault)),
     }
 }
@@ -156,25 +159,26 @@ fn run_script<K: Sink>(
 /// The record of a script's run, and the text that is written about it.
 fn record_and_text(
     alloc: Global,
-    limited: &LimitedScript,
+    limited_script: &LimitedScript,
     seed: Option<u32>,
 ) -> Result<(Record, Vec<u8>), NoMemory>
-    ensures legal { IfOk result (λ made. IsLegal serial limited.now.script made.0) }
-    ensures serial { IfOk result (λ made. IsSerial limited.now.script made.0) }
-    ensures text { IfOk result (λ made. made.1.items ≡ text_of seed limited.now.script made.0) }
+    ensures legal { IfOk result (λ outcome. IsLegal serial limited_script.now.script outcome.0) }
+    ensures serial { IfOk result (λ outcome. IsSerial limited_script.now.script outcome.0) }
+    ensures text { IfOk result (λ outcome.
+        outcome.1.items ≡ run_text seed limited_script.now.script outcome.0) }
 {
-    let kept = run_serial(alloc, limited)?;
+    let run_record = run_serial(alloc, limited_script)?;
     let text = match seed {
-        None => write_report(alloc, &limited.script, &kept)?,
-        Some(seed) => write_summary(alloc, seed, &kept)?,
+        None => write_report(alloc, &limited_script.script, &run_record)?,
+        Some(seed) => write_summary(alloc, seed, &run_record)?,
     };
-    Ok((kept, text))
+    Ok((run_record, text))
 }
 
 /// Writes the text of a run, which has left this record.
-fn write_text<K: Sink>(kept: Record, text: Vec<u8>, sink: &mut K) -> RunEnd
+fn write_text<K: Sink>(run_record: Record, text: Vec<u8>, sink: &mut K) -> RunEnd
     ensures status { result.status ≡ status_of_end result.fault }
-    ensures kept { result.kept ≡ Some kept }
+    ensures kept { result.kept ≡ Some run_record }
     ensures ran { HasRunToEnd result.fault }
     ensures reported { HasReported result.fault text.items (K.written sink.old)
         (K.written sink.new) }
@@ -187,7 +191,7 @@ fn write_text<K: Sink>(kept: Record, text: Vec<u8>, sink: &mut K) -> RunEnd
     };
     RunEnd {
         status,
-        kept: Some(kept),
+        kept: Some(run_record),
         fault,
     }
 }

@@ -4,7 +4,7 @@ ghost use Rattle.std.specs.Io.KnownBytes.{append_known};
 ghost use Rattle.ce_io.specs.Faults.{HasCause};
 ghost use Rattle.ce_run.specs.Fault.{line_of, status_of};
 
-use ce_io::{Failed, Sink, write_all};
+use ce_io::{Failure, Sink, write_all};
 use ce_model::NoMemory;
 use ce_script::{Record, ScriptFault};
 use itoa::Buffer;
@@ -52,9 +52,9 @@ impl RunFault {
     }
 }
 
-/// Writes the line that tells of a fault, with a line feed. `Failed` comes where the sink failed, which has then
-/// taken a front part of the line.
-pub fn write_fault<K: Sink>(fault: &RunFault, sink: &mut K) -> Result<(), Failed>
+/// Writes the line that tells of a fault, with a line feed. `Failure` comes where the sink failed,
+/// which has then taken a front part of the line.
+pub fn write_fault<K: Sink>(fault: &RunFault, sink: &mut K) -> Result<(), Failure>
     ensures ok { OnOk result (K.written sink.new
         ≡ append_known (K.written sink.old) (line_of fault.now)) }
     ensures part { OnErr result ((n : ℕ)
@@ -81,9 +81,10 @@ pub fn write_fault<K: Sink>(fault: &RunFault, sink: &mut K) -> Result<(), Failed
     }
 }
 
-/// Writes these pieces, one behind the other. After `Failed` the sink has taken a front part of them together.
+/// Writes these pieces, one behind the other. After `Failure` the sink has taken a front part of
+/// them together.
 #[tactic(auto, using(crate::proofs::Pieces::part_of_first, crate::proofs::Pieces::part_of_rest))]
-fn write_pieces<K: Sink>(sink: &mut K, pieces: &[&[u8]]) -> Result<(), Failed>
+fn write_pieces<K: Sink>(sink: &mut K, pieces: &[&[u8]]) -> Result<(), Failure>
     ensures ok { OnOk result (K.written sink.new
         ≡ append_known (K.written sink.old) (flat_map (λ piece. piece.now) pieces.now)) }
     ensures part { OnErr result ((n : ℕ)

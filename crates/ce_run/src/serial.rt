@@ -3,7 +3,7 @@ ghost use Rattle.std.specs.Prelude.{◌≡◌, ℕ, ◌<◌, ◌≤◌, ◌^◌,
 ghost use Rattle.ce_model.specs.Limits.{greatest_dim, greatest_users};
 ghost use Rattle.ce_model.specs.Machine.{IsMachine};
 ghost use Rattle.ce_daemon.specs.Boxes.{AreBoxes};
-ghost use Rattle.rk_node.specs.Boxes.{IsClean};
+ghost use Rattle.rk_node.specs.Boxes.{IsCleanBox};
 ghost use Rattle.ce_script.specs.declared.script.Script.{Script};
 ghost use Rattle.ce_script.specs.Bounds.{IsCommandWithin};
 ghost use Rattle.ce_script.specs.Doings.{Doing};
@@ -24,14 +24,19 @@ use rv_image::Image;
 use sqlite_items::Items;
 use std::alloc::Global;
 
-/// Carries out the commands of a script one after another, in the script's order, on a machine of its own. A script without
-/// users makes no machine, and its record is empty. `NoMemory` may come at any time.
-pub(crate) fn run_serial(alloc: Global, limited: &LimitedScript) -> Result<Record, NoMemory>
-    ensures legal { IfOk result (IsLegal serial limited.now.script) }
-    ensures serial { IfOk result (IsSerial limited.now.script) }
+/// Carries out the commands of a script one after another, in the script's order, on a machine of
+/// its own. A script without users makes no machine, and its record is empty. `NoMemory` may come
+/// at any time.
+pub(crate) fn run_serial(alloc: Global, limited_script: &LimitedScript) -> Result<Record, NoMemory>
+    ensures legal { IfOk result (IsLegal serial limited_script.now.script) }
+    ensures serial { IfOk result (IsSerial limited_script.now.script) }
 {
-    match limited.script.dim {
-        Some(dim) if !limited.script.users.is_empty() => run_on_machine(alloc, limited, dim),
+    match limited_script.script.dim {
+        Some(dim) if !limited_script.script.users.is_empty() => run_on_machine(
+            alloc,
+            limited_script,
+            dim,
+        ),
         _ => Ok(Record {
             users: Items::new(alloc),
             history: Items::new(alloc),
@@ -41,15 +46,19 @@ pub(crate) fn run_serial(alloc: Global, limited: &LimitedScript) -> Result<Recor
 
 /// The run of a script that has users, on a machine of its dimension.
 #[tactic(auto, using(ce_model::specs::Limits::greatest_users_lem))]
-fn run_on_machine(alloc: Global, limited: &LimitedScript, dim: u32) -> Result<Record, NoMemory>
-    requires dim { limited.now.script.dim ≡ Some dim }
-    requires users { 0 < length limited.now.script.users }
-    ensures legal { IfOk result (IsLegal serial limited.now.script) }
-    ensures serial { IfOk result (IsSerial limited.now.script) }
+fn run_on_machine(
+    alloc: Global,
+    limited_script: &LimitedScript,
+    dim: u32,
+) -> Result<Record, NoMemory>
+    requires dim { limited_script.now.script.dim ≡ Some dim }
+    requires users { 0 < length limited_script.now.script.users }
+    ensures legal { IfOk result (IsLegal serial limited_script.now.script) }
+    ensures serial { IfOk result (IsSerial limited_script.now.script) }
 {
-    let script = &limited.script;
+    let script = &limited_script.script;
     let images = copy_images(alloc, script.images.as_slice())?;
-    let mut machine = open_machine(alloc, limited, dim)?;
+    let mut machine = open_machine(alloc, limited_script, dim)?;
     let mut user_states = open_user_states(alloc, script.users.len() as u32)?;
     let mut users = open_records(alloc, script.users.as_slice())?;
     for (user, command) in script.commands.as_slice() {
@@ -69,8 +78,8 @@ fn run_on_machine(alloc: Global, limited: &LimitedScript, dim: u32) -> Result<Re
     })
 }
 
-/// Carries out one command of a user, whose record has it then with its answer. `NoMemory` may come at any time; nothing of
-/// all this is used again then.
+/// Carries out one command of a user, whose record has it then with its answer. `NoMemory` may come
+/// at any time; nothing of all this is used again then.
 fn go_further(
     alloc: Global,
     machine: &mut Machine<NodeBox>,
@@ -103,15 +112,15 @@ fn go_further(
 #[tactic(auto, using(ce_model::specs::Limits::greatest_users_lem))]
 fn open_machine(
     alloc: Global,
-    limited: &LimitedScript,
+    limited_script: &LimitedScript,
     dim: u32,
 ) -> Result<Machine<NodeBox>, NoMemory>
-    requires dim { limited.now.script.dim ≡ Some dim }
-    requires users { 0 < length limited.now.script.users }
+    requires dim { limited_script.now.script.dim ≡ Some dim }
+    requires users { 0 < length limited_script.now.script.users }
     ensures { IfOk result (λ machine.
-        machine ≡ record { parts = machine_of limited.now.script; history = [] }) }
+        machine ≡ record { parts = machine_of limited_script.now.script; history = [] }) }
 {
-    let script = &limited.script;
+    let script = &limited_script.script;
     let images = copy_images(alloc, script.images.as_slice())?;
     let boxes = open_boxes(alloc, dim)?;
     Machine::new(alloc, dim, script.users.len() as u32, images, boxes)
@@ -119,11 +128,12 @@ fn open_machine(
 
 /// The images of a script, by number.
 fn copy_images(alloc: Global, images: &[NamedImage]) -> Result<Vec<Image>, NoMemory>
-    ensures { IfOk result (λ copies. copies.items ≡ map (λ named. named.image) images.now) }
+    ensures { IfOk result (λ copies.
+        copies.items ≡ map (λ named_image. named_image.image) images.now) }
 {
     let mut copies = Vec::new(alloc);
-    for named in images {
-        copies.push(named.image.copy(alloc)?)?;
+    for named_image in images {
+        copies.push(named_image.image.copy(alloc)?)?;
     }
     Ok(copies)
 }
@@ -133,7 +143,7 @@ fn copy_images(alloc: Global, images: &[NamedImage]) -> Result<Vec<Image>, NoMem
 fn open_boxes(alloc: Global, dim: u32) -> Result<Vec<NodeBox>, NoMemory>
     requires { dim ≤ greatest_dim }
     ensures { IfOk result (λ boxes.
-        AreBoxes home_of IsClean (2 ^ dim) (λ node. node) boxes.items) }
+        AreBoxes home_of IsCleanBox (2 ^ dim) (λ node. node) boxes.items) }
 {
     let mut boxes = Vec::new(alloc);
     for node in 0..1_u32 << dim {
@@ -149,7 +159,7 @@ fn open_user_states(alloc: Global, users: u32) -> Result<Vec<Option<UserState>>,
 {
     let mut user_states = Vec::new(alloc);
     for user in 0..users {
-        user_states.push(Some(UserState::Free(Host::new(alloc, user)?)))?;
+        user_states.push(Some(UserState::HomeHost(Host::new(alloc, user)?)))?;
     }
     Ok(user_states)
 }
@@ -171,7 +181,7 @@ fn open_records(alloc: Global, names: &[Name]) -> Result<Vec<UserRecord>, NoMemo
 
 /// The same command.
 fn copy_command(alloc: Global, command: &Command) -> Result<Command, NoMemory>
-    ensures { IfOk result (λ copied. copied ≡ command.now) }
+    ensures { IfOk result (λ copy. copy ≡ command.now) }
 {
     match command {
         Command::Getcube(dim) => Ok(Command::Getcube(*dim)),
@@ -182,14 +192,14 @@ fn copy_command(alloc: Global, command: &Command) -> Result<Command, NoMemory>
         Command::Send(to, bytes) => Ok(Command::Send(*to, copy_bytes(alloc, bytes)?)),
         Command::Run(count) => Ok(Command::Run(*count)),
         Command::Recv(count) => Ok(Command::Recv(*count)),
-        Command::Dump(at) => Ok(Command::Dump(*at)),
+        Command::Dump(place) => Ok(Command::Dump(*place)),
         Command::Trace => Ok(Command::Trace),
     }
 }
 
 /// The same bytes.
 fn copy_bytes(alloc: Global, bytes: &Bytes) -> Result<Bytes, NoMemory>
-    ensures { IfOk result (λ copied. copied ≡ bytes.now) }
+    ensures { IfOk result (λ copy. copy ≡ bytes.now) }
 {
     Ok(Bytes::from_vec(Vec::from_slice(alloc, bytes.as_slice())?))
 }

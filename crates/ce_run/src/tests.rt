@@ -4,7 +4,7 @@ ghost use Rattle.std.specs.Prelude.{◌≤◌};
 mod rows;
 
 use super::*;
-use ce_gate::Open;
+use ce_gate::OpenGate;
 use ce_io::{MemSink, MemSource};
 use ce_model::SCRIPT_LIMIT;
 use rows::{
@@ -65,7 +65,7 @@ fn run_line<R: Threads + Sync>(
         &mut source,
         &mut sink,
         &mut errors,
-        &Open,
+        &OpenGate,
     );
     Ok(Ran {
         status,
@@ -187,7 +187,14 @@ fn hello_by_both_calls(rt: HostRuntime) -> Result<(), Fail> {
         let mut source = MemSource::new(bytes, Vec::new(alloc), 7);
         let mut sink = memory_sink(alloc, Vec::new(alloc), 7)?;
         let end = if through_top {
-            top(&rt, alloc, words.as_slice(), &mut source, &mut sink, &Open)
+            top(
+                &rt,
+                alloc,
+                words.as_slice(),
+                &mut source,
+                &mut sink,
+                &OpenGate,
+            )
         } else {
             serial_call(alloc, words.as_slice(), &mut source, &mut sink)
         };
@@ -240,7 +247,8 @@ fn no_store(rt: HostRuntime) -> Result<(), Fail> {
     Ok(())
 }
 
-/// A process takes all blocks of its node, each at the next window, and one more where it has freed one.
+/// A process takes all blocks of its node, each at the next window, and one more where it has freed
+/// one.
 #[test]
 fn store(rt: HostRuntime) -> Result<(), Fail> {
     let alloc = rt.alloc();
@@ -286,7 +294,8 @@ fn load(rt: HostRuntime) -> Result<(), Fail> {
     Ok(())
 }
 
-/// Lines of words that are refused; those without `--serial` ask for threads, which aren't there yet.
+/// Lines of words that are refused; those without `--serial` ask for threads, which aren't there
+/// yet.
 #[test]
 fn usage(rt: HostRuntime) -> Result<(), Fail> {
     let lines: [&[&str]; 8] = [
@@ -468,7 +477,7 @@ fn words_that_cannot_be_read(rt: HostRuntime) -> Result<(), Fail> {
             &mut source,
             &mut sink,
             &mut errors,
-            &Open,
+            &OpenGate,
         );
         assert_eq!(rt; exit, status);
         assert_eq!(rt; sink.bytes().len(), 0);

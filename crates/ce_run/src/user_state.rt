@@ -6,7 +6,7 @@ use ce_host::Host;
 #[derive(Drop)]
 pub(crate) enum UserState {
     /// The user holds no cube.
-    Free(Host),
+    HomeHost(Host),
     /// The user holds a cube, with this crew.
-    Holding(SerialCrew),
+    CubeCrew(SerialCrew),
 }

@@ -10,13 +10,13 @@ use Rattle.std.proofs.lemmas.List.Concat.{flat_map-append}
 use Rattle.std.specs.Prelude.{option_map, IfSome}
 use Rattle.std.specs.List.{list_any, slice_split, onto_first, position_or_len, before_first, after_first, AllByRecursion}
 use Rattle.ce_text.specs.Bytes.{is_line_feed}
-use Rattle.ce_text.specs.Line.{cut_parts}
+use Rattle.ce_text.specs.Line.{cut_parts, lines_text}
 use Rattle.ce_script.specs.declared.reader.rest.Rest.{Rest}
 use Rattle.ce_script.specs.declared.reader.rest.Body.{Body}
-use Rattle.ce_script.specs.Lines.{Line, size_of}
+use Rattle.ce_script.specs.Lines.{Line, rest_size}
 use Rattle.ce_script.specs.Statements.{is_end, found_body}
-use Rattle.ce_script.specs.ReadLines.{texts_left, numbered_lines, left_of, lines_left, reach_of, IsFirstLine, IsBodyIn, remaining_statements}
-use Rattle.ce_script.proofs.BodyLines.{left, left_shorter, line_at, joined, text_is, first_line, numbered_append}
+use Rattle.ce_script.specs.ReadLines.{texts_left, numbered_lines, rest_text, lines_left, reach_of, IsFirstLine, IsBodyIn, remaining_statements}
+use Rattle.ce_script.proofs.BodyLines.{left_shorter, line_at, text_is, first_line, numbered_append, bytes_left}
 use Rattle.ce_script.proofs.Outside.{past_body, body_there, body_missing}
 
 -- ---- pieces
@@ -48,12 +48,12 @@ split_apart (byte ∷ front) behind =
 abbrev pub IsPiece : List ℕ → Type 0
 IsPiece text = slice_split is_line_feed text ≡ text ∷ []
 
-pub split_joined : (texts : List (List ℕ)) → AllByRecursion IsPiece texts → slice_split is_line_feed (joined texts) ≡ texts ++ [] ∷ []
+pub split_joined : (texts : List (List ℕ)) → AllByRecursion IsPiece texts → slice_split is_line_feed (lines_text texts) ≡ texts ++ [] ∷ []
 split_joined [] each = refl
 split_joined (text ∷ texts) each =
-    ap (slice_split is_line_feed) (append_assoc text (10 ∷ []) (joined texts))
-    ∙ split_apart text (joined texts)
-    ∙ ap (λ pieces. pieces ++ slice_split is_line_feed (joined texts)) each.0
+    ap (slice_split is_line_feed) (append_assoc text (10 ∷ []) (lines_text texts))
+    ∙ split_apart text (lines_text texts)
+    ∙ ap (λ pieces. pieces ++ slice_split is_line_feed (lines_text texts)) each.0
     ∙ ap (λ rest. text ∷ rest) (split_joined texts each.1)
 
 same_byte : (byte : ℕ) → is_line_feed byte ≡ true → byte ≡ 10
@@ -86,12 +86,12 @@ cut_piece front behind bytes e =
 
 -- what was passed, and what is left of it all
 pub record IsAt (done : List (List ℕ)) (all bytes : List ℕ) : Type 0 where
-  pub joins : all ≡ joined done ++ bytes
+  pub joins : all ≡ lines_text done ++ bytes
   pub each : AllByRecursion IsPiece done
 
 -- what was passed before bytes that are left
-pub is_at : (done : List (List ℕ)) (all : List ℕ) (left : Option (Bor (List ℕ))) (bytes : List ℕ) → option_map (λ b. b.now) left ≡ Some bytes
-    → IfSome left (λ bytes. IsAt done all bytes.now) → IsAt done all bytes
+pub is_at : (done : List (List ℕ)) (all : List ℕ) (bytes_left : Option (Bor (List ℕ))) (bytes : List ℕ) → option_map (λ b. b.now) bytes_left ≡ Some bytes
+    → IfSome bytes_left (λ bytes. IsAt done all bytes.now) → IsAt done all bytes
 is_at done all None bytes e at = absurd cc
 is_at done all (Some it) bytes e at = let same : it.now ≡ bytes = cc in subst (IsAt done all) same at
 
@@ -106,23 +106,23 @@ pub record IsUpTo (rest : Rest) (all : List ℕ) (here : Rest) : Type 0 where
 
 -- ---- one line further
 
-joined_more : (texts : List (List ℕ)) (text : List ℕ) → joined (texts ++ text ∷ []) ≡ joined texts ++ (text ++ 10 ∷ [])
-joined_more texts text = flat_map-append (λ (it : List ℕ). it ++ 10 ∷ []) texts (text ∷ []) ∙ ap (λ (last : List ℕ). joined texts ++ last) (append-nil (text ++ 10 ∷ []))
+joined_more : (texts : List (List ℕ)) (text : List ℕ) → lines_text (texts ++ text ∷ []) ≡ lines_text texts ++ (text ++ 10 ∷ [])
+joined_more texts text = flat_map-append (λ (it : List ℕ). it ++ 10 ∷ []) texts (text ∷ []) ∙ ap (λ (last : List ℕ). lines_text texts ++ last) (append-nil (text ++ 10 ∷ []))
 
 each_more : (texts : List (List ℕ)) (text : List ℕ) → AllByRecursion IsPiece texts → IsPiece text → AllByRecursion IsPiece (texts ++ text ∷ [])
 each_more [] text each is = (is, tt)
 each_more (one ∷ texts) text each is = (each.0, each_more texts text each.1 is)
 
-pub reach_shorter : (here : Rest) (bytes : List ℕ) (behind : Option (Bor (List ℕ))) → left_of here ≡ Some bytes → IfSome behind (λ behind. length behind.now < length bytes)
-    → here.line_count + 1 + size_of (left behind) ≤ reach_of here
-reach_shorter here bytes behind e shorter = omega (arith, ap size_of e, left_shorter behind (length bytes) shorter)
+pub reach_shorter : (here : Rest) (bytes : List ℕ) (behind : Option (Bor (List ℕ))) → rest_text here ≡ Some bytes → IfSome behind (λ behind. length behind.now < length bytes)
+    → here.line_count + 1 + rest_size (bytes_left behind) ≤ reach_of here
+reach_shorter here bytes behind e shorter = omega (arith, ap rest_size e, left_shorter behind (length bytes) shorter)
 
 -- the lines that are left begin with the next one
 pub next_line : (here : Rest) (front : List ℕ) (next : Rest) → IsFirstLine here front next → lines_left here ≡ line_at next.line_count front ∷ lines_left next
 next_line here front next step =
-    ap (λ (left : Option (List ℕ)). numbered_lines (here.line_count + 1) (texts_left left)) step.is
-    ∙ first_line (here.line_count + 1) step.bytes front (left_of next) step.parts
-    ∙ ap (λ (n : ℕ). line_at n front ∷ numbered_lines (n + 1) (texts_left (left_of next))) (sym step.before)
+    ap (λ (bytes_left : Option (List ℕ)). numbered_lines (here.line_count + 1) (texts_left bytes_left)) step.is
+    ∙ first_line (here.line_count + 1) step.bytes front (rest_text next) step.parts
+    ∙ ap (λ (n : ℕ). line_at n front ∷ numbered_lines (n + 1) (texts_left (rest_text next))) (sym step.before)
 
 module _ (rest here next : Rest) (all front : List ℕ) (up : IsUpTo rest all here) (step : IsFirstLine here front next) where
   abbrev line : Line
@@ -135,7 +135,7 @@ module _ (rest here next : Rest) (all front : List ℕ) (up : IsUpTo rest all he
   all_lines = up.lines ∙ ap (λ lines. numbered_lines (rest.line_count + 1) up.done ++ lines) (next_line here front next step)
 
   -- the line is the end
-  pub body_found : (body : Body) → body.line ≡ rest.line_count → is_end line ≡ true → body.text.now ≡ joined up.done → AllByRecursion IsPiece up.done → IsBodyIn rest body next
+  pub body_found : (body : Body) → body.line ≡ rest.line_count → is_end line ≡ true → body.text.now ≡ lines_text up.done → AllByRecursion IsPiece up.done → IsBodyIn rest body next
   body_found body at ends text each =
       let lines = numbered_lines (rest.line_count + 1) up.done in
       record {
@@ -160,7 +160,7 @@ module _ (rest here next : Rest) (all front : List ℕ) (up : IsUpTo rest all he
       let same : rest.line_count + 1 + length up.done ≡ next.line_count = omega (arith, up.before, step.before) in
       numbered_append (rest.line_count + 1) up.done (front ∷ []) ∙ ap (λ (n : ℕ). numbered_lines (rest.line_count + 1) up.done ++ line_at n front ∷ []) same
 
-  more_bytes : (left : Option (Bor (List ℕ))) → next.text ≡ left → IfSome here.text (λ bytes. IsAt up.done all bytes.now) → IfSome left (λ behind. IsAt (up.done ++ front ∷ []) all behind.now)
+  more_bytes : (bytes_left : Option (Bor (List ℕ))) → next.text ≡ bytes_left → IfSome here.text (λ bytes. IsAt up.done all bytes.now) → IfSome bytes_left (λ behind. IsAt (up.done ++ front ∷ []) all behind.now)
   more_bytes None e at = tt
   more_bytes (Some behind) e at =
       let behind_is : (front, Some behind.now) ≡ cut_parts is_line_feed step.bytes = ap (λ (it : Option (Bor (List ℕ))). (front, option_map (λ b. b.now) it)) (sym e) ∙ step.parts in
@@ -168,8 +168,8 @@ module _ (rest here next : Rest) (all front : List ℕ) (up : IsUpTo rest all he
       record {
         joins =
             here_at.joins
-            ∙ ap (λ (left : List ℕ). joined up.done ++ left) (cut_bytes front behind.now step.bytes behind_is ∙ sym (append_assoc front (10 ∷ []) behind.now))
-            ∙ sym (append_assoc (joined up.done) (front ++ 10 ∷ []) behind.now)
+            ∙ ap (λ (bytes_left : List ℕ). lines_text up.done ++ bytes_left) (cut_bytes front behind.now step.bytes behind_is ∙ sym (append_assoc front (10 ∷ []) behind.now))
+            ∙ sym (append_assoc (lines_text up.done) (front ++ 10 ∷ []) behind.now)
             ∙ ap (λ (text : List ℕ). text ++ behind.now) (sym (joined_more up.done front));
         each = each_more up.done front here_at.each (cut_piece front behind.now step.bytes behind_is);
       }
@@ -199,20 +199,20 @@ begins rest all e = record {
   reach = omega arith;
 }
   where
-    at : (left : Option (Bor (List ℕ))) → IfSome left (λ bytes. all ≡ bytes.now) → IfSome left (λ bytes. IsAt [] all bytes.now)
+    at : (bytes_left : Option (Bor (List ℕ))) → IfSome bytes_left (λ bytes. all ≡ bytes.now) → IfSome bytes_left (λ bytes. IsAt [] all bytes.now)
     at None e = tt
     at (Some it) e = record { joins = e; each = tt }
 
 -- nothing is left, and no end was found
-pub body_ended : (rest here : Rest) (all : List ℕ) → IsUpTo rest all here → left_of here ≡ None → found_body (lines_left rest) ≡ None
+pub body_ended : (rest here : Rest) (all : List ℕ) → IsUpTo rest all here → rest_text here ≡ None → found_body (lines_left rest) ≡ None
 body_ended rest here all up none =
     let lines = numbered_lines (rest.line_count + 1) up.done in
-    let empty : lines_left here ≡ [] = ap (λ (left : Option (List ℕ)). numbered_lines (here.line_count + 1) (texts_left left)) none in
+    let empty : lines_left here ≡ [] = ap (λ (bytes_left : Option (List ℕ)). numbered_lines (here.line_count + 1) (texts_left bytes_left)) none in
     let all_lines : lines_left rest ≡ lines = up.lines ∙ ap (λ rest. lines ++ rest) empty ∙ append-nil lines in
     body_missing (lines_left rest) (ap (list_any is_end) all_lines ∙ up.going)
 
-pub nothing_left : (rest : Rest) → left_of rest ≡ None → found_body (lines_left rest) ≡ None
-nothing_left rest none = body_missing (lines_left rest) (ap (λ (left : Option (List ℕ)). list_any is_end (numbered_lines (rest.line_count + 1) (texts_left left))) none)
+pub nothing_left : (rest : Rest) → rest_text rest ≡ None → found_body (lines_left rest) ≡ None
+nothing_left rest none = body_missing (lines_left rest) (ap (λ (bytes_left : Option (List ℕ)). list_any is_end (numbered_lines (rest.line_count + 1) (texts_left bytes_left))) none)
 
 -- what stands before what is left
 pub taken : (all front bytes : List ℕ) → all ≡ front ++ bytes → take (length all - length bytes) all ≡ front

@@ -6,18 +6,18 @@ use Rattle.std.specs.Prelude.{find, flat_map, option_map, unwrap_or, is_none, If
 use Rattle.std.specs.Option.{option_or}
 use Rattle.std.specs.List.{list_any, slice_split}
 use Rattle.ce_text.specs.Bytes.{is_line_feed}
-use Rattle.ce_text.specs.Line.{cut_parts, before_comment}
-use Rattle.ce_text.specs.Words.{words_between}
+use Rattle.ce_text.specs.Line.{cut_parts, before_comment, lines_text}
+use Rattle.ce_text.specs.Words.{line_words}
 use Rattle.ce_text.proofs.Splitting.{split_cut, split_behind, cut_pieces}
-use Rattle.ce_script.specs.Lines.{Line, words, has_bad_byte, size_of}
-use Rattle.ce_script.specs.Bodies.{has_bad_word, body_bytes, text_of}
-use Rattle.ce_script.specs.ReadLines.{texts_left, numbered_lines, with_empty}
+use Rattle.ce_script.specs.Lines.{Line, words, has_bad_byte, rest_size}
+use Rattle.ce_script.specs.Bodies.{has_bad_word, body_bytes, body_text}
+use Rattle.ce_script.specs.ReadLines.{texts_left, numbered_lines, with_empty_line}
 
 -- the bytes that are left, if any
-abbrev pub left : Option (Bor (List ℕ)) → Option (List ℕ)
-left rest = option_map (λ bytes. bytes.now) rest
+abbrev pub bytes_left : Option (Bor (List ℕ)) → Option (List ℕ)
+bytes_left rest = option_map (λ bytes. bytes.now) rest
 
-pub left_shorter : (rest : Option (Bor (List ℕ))) (n : ℕ) → IfSome rest (λ bytes. length bytes.now < n) → size_of (left rest) ≤ n
+pub left_shorter : (rest : Option (Bor (List ℕ))) (n : ℕ) → IfSome rest (λ bytes. length bytes.now < n) → rest_size (bytes_left rest) ≤ n
 left_shorter None n h = omega arith
 left_shorter (Some rest) n h = omega arith
 
@@ -57,7 +57,7 @@ numbered_append n (text ∷ front) back =
     let same : n + 1 + length front ≡ n + length (text ∷ front) = omega arith in
     ap (λ rest. line_at n text ∷ rest) (numbered_append (n + 1) front back ∙ ap (λ m. numbered_lines (n + 1) front ++ numbered_lines m back) same)
 
-find_last : (test : Line → Bool) (lines : List Line) (last : ℕ) → test (line_at last []) ≡ false → find test (with_empty lines last) ≡ find test lines
+find_last : (test : Line → Bool) (lines : List Line) (last : ℕ) → test (line_at last []) ≡ false → find test (with_empty_line lines last) ≡ find test lines
 find_last test lines last e =
     find-append test lines (line_at last [] ∷ []) ∙ ap (λ here. option_or (find test lines) (cond here (Some (line_at last [])) None)) e ∙ or_none (find test lines)
   where
@@ -70,16 +70,16 @@ unfolding before_comment cut_parts
 empty_plain last = refl
 
 empty_words : (last : ℕ) → words (line_at last []) ≡ []
-unfolding words_between before_comment cut_parts
+unfolding line_words before_comment cut_parts
 empty_words last = refl
 
-pub shown_bad_byte : (lines : List Line) (last : ℕ) → find has_bad_byte (with_empty lines last) ≡ find has_bad_byte lines
+pub shown_bad_byte : (lines : List Line) (last : ℕ) → find has_bad_byte (with_empty_line lines last) ≡ find has_bad_byte lines
 shown_bad_byte lines last = find_last has_bad_byte lines last (empty_plain last)
 
-pub shown_bad_word : (read : List ℕ → Option (List ℕ)) (lines : List Line) (last : ℕ) → find (has_bad_word read) (with_empty lines last) ≡ find (has_bad_word read) lines
+pub shown_bad_word : (read : List ℕ → Option (List ℕ)) (lines : List Line) (last : ℕ) → find (has_bad_word read) (with_empty_line lines last) ≡ find (has_bad_word read) lines
 shown_bad_word read lines last = find_last (has_bad_word read) lines last (ap (list_any (λ word. is_none (read word))) (empty_words last))
 
-pub shown_bytes : (read : List ℕ → Option (List ℕ)) (lines : List Line) (last : ℕ) → body_bytes read (with_empty lines last) ≡ body_bytes read lines
+pub shown_bytes : (read : List ℕ → Option (List ℕ)) (lines : List Line) (last : ℕ) → body_bytes read (with_empty_line lines last) ≡ body_bytes read lines
 unfolding body_bytes
 shown_bytes read lines last =
     let f : Line → List ℕ = λ line. flat_map (λ word. unwrap_or (read word) []) (words line) in
@@ -89,11 +89,7 @@ shown_bytes read lines last =
 
 -- ---- the bytes of lines
 
--- lines, each ended by a line feed
-abbrev pub joined : List (List ℕ) → List ℕ
-joined texts = flat_map (λ text. text ++ 10 ∷ []) texts
-
-pub text_is : (n : ℕ) (texts : List (List ℕ)) → text_of (numbered_lines n texts) ≡ joined texts
-unfolding text_of
+pub text_is : (n : ℕ) (texts : List (List ℕ)) → body_text (numbered_lines n texts) ≡ lines_text texts
+unfolding body_text
 text_is n [] = refl
 text_is n (text ∷ texts) = ap (λ rest. (text ++ 10 ∷ []) ++ rest) (text_is (n + 1) texts)

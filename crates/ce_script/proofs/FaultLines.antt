@@ -14,7 +14,7 @@ use Rattle.rv_asm.specs.declared.statement.PlacedStatement.{PlacedStatement}
 use Rattle.rv_asm.specs.declared.symbols.Symbol.{Symbol}
 use Rattle.rv_asm.specs.Names.{Names}
 use Rattle.rv_asm.specs.Faults.{◌>>=◌, refusal, AsmUnless}
-use Rattle.rv_asm.specs.FirstPass.{LayoutSoFar, layout_of, nothing_laid, layout_with_statement, layout_with_all, layout_with_name, layout_with_number, layout_with_statements, statement, labelled_statement, line_laid, judgment_at_line, lines_laid, first_pass}
+use Rattle.rv_asm.specs.FirstPass.{LayoutSoFar, layout_of, empty_layout, layout_with_statement, layout_with_all, layout_with_name, layout_with_number, layout_with_statements, layout_with_statement_text, layout_with_labelled_statement, layout_with_line, judgment_at_line, layout_with_lines, first_pass}
 use Rattle.rv_asm.specs.SecondPass.{Part, parts_of, second_pass}
 use Rattle.rv_asm.specs.Assembly.{Assembly, entry_of, assembly_of}
 use Rattle.rv_asm.specs.Sizes.{size_of}
@@ -92,17 +92,17 @@ either_keeps : (line : ℕ) (laid : LayoutSoFar) (test : Bool) (first second : R
 either_keeps line laid true first second h g = h
 either_keeps line laid false first second h g = g
 
-statement_keeps : (line : ℕ) (laid : LayoutSoFar) (bytes : List ℕ) → HasKept line laid (statement line laid bytes)
-unfolding statement
+statement_keeps : (line : ℕ) (laid : LayoutSoFar) (bytes : List ℕ) → HasKept line laid (layout_with_statement_text line laid bytes)
+unfolding layout_with_statement_text
 statement_keeps line laid [] = keeps_ok line laid laid (λ h. h)
 statement_keeps line laid (byte ∷ bytes) = search (keeps_next, either_keeps, equ_keeps, lay_keeps)
 
-labelled_keeps : (line : ℕ) (laid : LayoutSoFar) (front : List ℕ) (rest : Option (List ℕ)) → HasKept line laid (labelled_statement line laid front rest)
+labelled_keeps : (line : ℕ) (laid : LayoutSoFar) (front : List ℕ) (rest : Option (List ℕ)) → HasKept line laid (layout_with_labelled_statement line laid front rest)
 labelled_keeps line laid front None = statement_keeps line laid (without_outer_blanks front)
 labelled_keeps line laid front (Some rest) = search (keeps_next, keeps_then, define_keeps, statement_keeps)
 
-line_keeps : (number : ℕ) (laid : LayoutSoFar) (line : List ℕ) → HasKept number laid (line_laid number laid line)
-unfolding line_laid
+line_keeps : (number : ℕ) (laid : LayoutSoFar) (line : List ℕ) → HasKept number laid (layout_with_line number laid line)
+unfolding layout_with_line
 line_keeps number laid line = search (keeps_next, labelled_keeps)
 
 -- ---- the first pass
@@ -117,7 +117,7 @@ record AreOnLines (before : ℕ) (laid : LayoutSoFar) (these : List (List ℕ)) 
   fault : (fault : AsmFault) → r ≡ Err fault → fault.line ≤ before + length these
 
 lines_by : (before : ℕ) (laid : LayoutSoFar) (line : List ℕ) (these : List (List ℕ)) (r : Result LayoutSoFar AsmKind) → HasKept (before + 1) laid r
-    → ((one : LayoutSoFar) → AreOnLines (before + 1) one these (lines_laid (before + 1) one these)) → AreOnLines before laid (line ∷ these) (judgment_at_line (before + 1) r >>= λ one. lines_laid (before + 1) one these)
+    → ((one : LayoutSoFar) → AreOnLines (before + 1) one these (layout_with_lines (before + 1) one these)) → AreOnLines before laid (line ∷ these) (judgment_at_line (before + 1) r >>= λ one. layout_with_lines (before + 1) one these)
 lines_by before laid line these (Ok one) keeps others = record {
   up = λ out e h. up_more (before + 1 + length these) (before + length (line ∷ these)) out.statements (omega arith)
       ((others one).up out e (keeps.up one refl (up_more before (before + 1) laid.statements (omega arith) h)));
@@ -128,14 +128,14 @@ lines_by before laid line these (Err kind) keeps others = record {
   fault = λ fault e. let same : before + 1 ≡ fault.line = ap (line_in {A = LayoutSoFar}) e in omega (arith, same);
 }
 
-all_lines : (before : ℕ) (laid : LayoutSoFar) (these : List (List ℕ)) → AreOnLines before laid these (lines_laid before laid these)
-unfolding lines_laid
+all_lines : (before : ℕ) (laid : LayoutSoFar) (these : List (List ℕ)) → AreOnLines before laid these (layout_with_lines before laid these)
+unfolding layout_with_lines
 all_lines before laid [] = record {
   up = λ out e h. up_more before (before + 0) out.statements (omega arith) (subst (AreUpTo before) (ap (statements_in {E = AsmFault} laid.statements) e) h);
   fault = λ fault e. absurd cc;
 }
 all_lines before laid (line ∷ these) =
-    lines_by before laid line these (line_laid (before + 1) laid line) (line_keeps (before + 1) laid line) (λ one. all_lines (before + 1) one these)
+    lines_by before laid line these (layout_with_line (before + 1) laid line) (line_keeps (before + 1) laid line) (λ one. all_lines (before + 1) one these)
 
 -- ---- the second pass
 
@@ -189,8 +189,8 @@ assembled_line : (text : List ℕ) (fault : AsmFault) → assembly_of text ≡ E
 unfolding assembly_of first_pass
 assembled_line text fault e =
     let last = 0 + length (line_texts text) in
-    let all = all_lines 0 nothing_laid (line_texts text) in
-    then_line (lines_laid 0 nothing_laid (line_texts text)) behind_first last fault all.fault
+    let all = all_lines 0 empty_layout (line_texts text) in
+    then_line (layout_with_lines 0 empty_layout (line_texts text)) behind_first last fault all.fault
     (λ laid is. then_line (second_pass laid.names PRIVATE_START laid.statements) (entered laid) last fault
     (λ one. second_line laid.names PRIVATE_START last laid.statements one (all.up laid is tt))
     (λ parts there. entered_line laid parts last fault))

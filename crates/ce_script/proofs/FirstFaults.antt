@@ -1,19 +1,20 @@
 -- The first fault of small texts, computed.
 use Rattle.std.proofs.Common.{◌≡◌, ℕ, List, [], ◌∷◌, ◌++◌, Option, Some, None, map, refl, codes}
+use Rattle.ce_text.specs.Line.{lines_text}
 use Rattle.ce_script.specs.declared.script.ScriptFault.{ScriptFault}
 use Rattle.ce_script.specs.declared.script.ScriptKind.TheVariants.{BadByte, UnknownWord, WordCount, NoMachine, SecondMachine, NoUser, BadNumber, BadName, BadHex, NameTaken, TooMany, UnknownImage, NoEnd, BadImage}
 use Rattle.ce_script.specs.Bodies.{located_fault}
-use Rattle.ce_script.specs.Faults.{first_fault}
-use Rattle.ce_script.proofs.Computing.{text, grammar}
+use Rattle.ce_script.specs.Faults.{first_script_fault}
+use Rattle.ce_script.proofs.Computing.{grammar}
 
 -- each text has this first fault, or none
 abbrev AreFirstFaults : List (List ℕ × Option ScriptFault) → Type 0
-AreFirstFaults rows = map (λ row. first_fault row.0) rows ≡ map (λ row. row.1) rows
+AreFirstFaults rows = map (λ row. first_script_fault row.0) rows ≡ map (λ row. row.1) rows
 
 -- ---- whole scripts
 
 -- the script that notes 42
-pub hello_is_right : first_fault (text (codes "machine 0" ∷ codes "image hello hex" ∷ codes "02A00513 00E00893 00000073 00D00893 00000073" ∷ codes "end" ∷ codes "user alice" ∷ codes "getcube 0" ∷ codes "spawn hello 0 0" ∷ codes "run 10" ∷ [])) ≡ None
+pub hello_is_right : first_script_fault (lines_text (codes "machine 0" ∷ codes "image hello hex" ∷ codes "02A00513 00E00893 00000073 00D00893 00000073" ∷ codes "end" ∷ codes "user alice" ∷ codes "getcube 0" ∷ codes "spawn hello 0 0" ∷ codes "run 10" ∷ [])) ≡ None
 unfolding grammar
 hello_is_right = refl
 
@@ -21,9 +22,9 @@ whole_scripts : AreFirstFaults (
     -- no statement at all, and a comment alone
     ([], None)
     -- a comment may have any bytes
-    ∷ (text ((codes "# " ++ 200 ∷ 1 ∷ []) ∷ []), None)
+    ∷ (lines_text ((codes "# " ++ 200 ∷ 1 ∷ []) ∷ []), None)
     -- a machine alone
-    ∷ (text (codes "machine 0" ∷ []), None)
+    ∷ (lines_text (codes "machine 0" ∷ []), None)
     ∷ [])
 unfolding grammar
 whole_scripts = refl
@@ -34,11 +35,11 @@ cut_short : AreFirstFaults (
     -- in its first word
     (codes "machin", Some (located_fault 1 UnknownWord))
     -- before `end`
-    ∷ (text (codes "machine 0" ∷ codes "image hello hex" ∷ codes "02A00513 00E00893 00000073 00D00893 00000073" ∷ []), Some (located_fault 2 NoEnd))
+    ∷ (lines_text (codes "machine 0" ∷ codes "image hello hex" ∷ codes "02A00513 00E00893 00000073 00D00893 00000073" ∷ []), Some (located_fault 2 NoEnd))
     -- before the count of `run`
-    ∷ (text (codes "machine 0" ∷ codes "image hello hex" ∷ codes "02A00513 00E00893 00000073 00D00893 00000073" ∷ codes "end" ∷ codes "user alice" ∷ codes "getcube 0" ∷ codes "spawn hello 0 0" ∷ []) ++ codes "run ", Some (located_fault 8 WordCount))
+    ∷ (lines_text (codes "machine 0" ∷ codes "image hello hex" ∷ codes "02A00513 00E00893 00000073 00D00893 00000073" ∷ codes "end" ∷ codes "user alice" ∷ codes "getcube 0" ∷ codes "spawn hello 0 0" ∷ []) ++ codes "run ", Some (located_fault 8 WordCount))
     -- within the count, and without a line feed
-    ∷ (text (codes "machine 0" ∷ codes "image hello hex" ∷ codes "02A00513 00E00893 00000073 00D00893 00000073" ∷ codes "end" ∷ codes "user alice" ∷ codes "getcube 0" ∷ codes "spawn hello 0 0" ∷ []) ++ codes "run 1", None)
+    ∷ (lines_text (codes "machine 0" ∷ codes "image hello hex" ∷ codes "02A00513 00E00893 00000073 00D00893 00000073" ∷ codes "end" ∷ codes "user alice" ∷ codes "getcube 0" ∷ codes "spawn hello 0 0" ∷ []) ++ codes "run 1", None)
     ∷ [])
 unfolding grammar
 cut_short = refl
@@ -47,29 +48,29 @@ cut_short = refl
 
 kinds : AreFirstFaults (
     -- `fly` is no command
-    (text (codes "machine 0" ∷ codes "user a" ∷ codes "fly" ∷ []), Some (located_fault 3 UnknownWord))
+    (lines_text (codes "machine 0" ∷ codes "user a" ∷ codes "fly" ∷ []), Some (located_fault 3 UnknownWord))
     -- nine users
-    ∷ (text (codes "machine 0" ∷ codes "user u0" ∷ codes "user u1" ∷ codes "user u2" ∷ codes "user u3" ∷ codes "user u4" ∷ codes "user u5" ∷ codes "user u6" ∷ codes "user u7" ∷ codes "user u8" ∷ []), Some (located_fault 10 TooMany))
+    ∷ (lines_text (codes "machine 0" ∷ codes "user u0" ∷ codes "user u1" ∷ codes "user u2" ∷ codes "user u3" ∷ codes "user u4" ∷ codes "user u5" ∷ codes "user u6" ∷ codes "user u7" ∷ codes "user u8" ∷ []), Some (located_fault 10 TooMany))
     -- eight users, of whom one comes again
-    ∷ (text (codes "machine 0" ∷ codes "user u0" ∷ codes "user u1" ∷ codes "user u2" ∷ codes "user u3" ∷ codes "user u4" ∷ codes "user u5" ∷ codes "user u6" ∷ codes "user u7" ∷ codes "user u0" ∷ []), None)
+    ∷ (lines_text (codes "machine 0" ∷ codes "user u0" ∷ codes "user u1" ∷ codes "user u2" ∷ codes "user u3" ∷ codes "user u4" ∷ codes "user u5" ∷ codes "user u6" ∷ codes "user u7" ∷ codes "user u0" ∷ []), None)
     -- an image without `end`
-    ∷ (text (codes "machine 0" ∷ codes "image x hex" ∷ codes "00000073" ∷ []), Some (located_fault 2 NoEnd))
+    ∷ (lines_text (codes "machine 0" ∷ codes "image x hex" ∷ codes "00000073" ∷ []), Some (located_fault 2 NoEnd))
     -- another statement first
-    ∷ (text (codes "user a" ∷ codes "machine 0" ∷ []), Some (located_fault 1 NoMachine))
+    ∷ (lines_text (codes "user a" ∷ codes "machine 0" ∷ []), Some (located_fault 1 NoMachine))
     -- two machines
-    ∷ (text (codes "machine 0" ∷ codes "machine 0" ∷ []), Some (located_fault 2 SecondMachine))
+    ∷ (lines_text (codes "machine 0" ∷ codes "machine 0" ∷ []), Some (located_fault 2 SecondMachine))
     -- a command without a user
-    ∷ (text (codes "machine 0" ∷ codes "peek" ∷ []), Some (located_fault 2 NoUser))
+    ∷ (lines_text (codes "machine 0" ∷ codes "peek" ∷ []), Some (located_fault 2 NoUser))
     -- two images of one name
-    ∷ (text (codes "machine 0" ∷ codes "image x hex" ∷ codes "00000073" ∷ codes "end" ∷ codes "image x hex" ∷ codes "00000073" ∷ codes "end" ∷ []), Some (located_fault 5 NameTaken))
+    ∷ (lines_text (codes "machine 0" ∷ codes "image x hex" ∷ codes "00000073" ∷ codes "end" ∷ codes "image x hex" ∷ codes "00000073" ∷ codes "end" ∷ []), Some (located_fault 5 NameTaken))
     -- an odd number of digits
-    ∷ (text (codes "machine 0" ∷ codes "user a" ∷ codes "send 0 0 abc" ∷ []), Some (located_fault 3 BadHex))
+    ∷ (lines_text (codes "machine 0" ∷ codes "user a" ∷ codes "send 0 0 abc" ∷ []), Some (located_fault 3 BadHex))
     -- a dimension of 7
-    ∷ (text (codes "machine 7" ∷ []), Some (located_fault 1 BadNumber))
+    ∷ (lines_text (codes "machine 7" ∷ []), Some (located_fault 1 BadNumber))
     -- a count over 1,000,000
-    ∷ (text (codes "machine 0" ∷ codes "user a" ∷ codes "recv 1000001" ∷ []), Some (located_fault 3 BadNumber))
+    ∷ (lines_text (codes "machine 0" ∷ codes "user a" ∷ codes "recv 1000001" ∷ []), Some (located_fault 3 BadNumber))
     -- a bad byte in a word that is none
-    ∷ (text ((codes "fly" ++ 200 ∷ []) ∷ []), Some (located_fault 1 BadByte))
+    ∷ (lines_text ((codes "fly" ++ 200 ∷ []) ∷ []), Some (located_fault 1 BadByte))
     ∷ [])
 unfolding grammar
 kinds = refl
@@ -78,23 +79,23 @@ kinds = refl
 
 bodies : AreFirstFaults (
     -- without `end` the bytes of later lines do not matter
-    (text (codes "machine 0" ∷ codes "image x hex" ∷ (200 ∷ []) ∷ []), Some (located_fault 2 NoEnd))
+    (lines_text (codes "machine 0" ∷ codes "image x hex" ∷ (200 ∷ []) ∷ []), Some (located_fault 2 NoEnd))
     -- a bad byte comes before a bad word of the body
-    ∷ (text (codes "machine 0" ∷ codes "image x hex" ∷ codes "zz" ∷ (200 ∷ []) ∷ codes "end" ∷ []), Some (located_fault 4 BadByte))
+    ∷ (lines_text (codes "machine 0" ∷ codes "image x hex" ∷ codes "zz" ∷ (200 ∷ []) ∷ codes "end" ∷ []), Some (located_fault 4 BadByte))
     -- and before the fault of the whole image
-    ∷ (text (codes "machine 0" ∷ codes "image x hex" ∷ (200 ∷ []) ∷ codes "end" ∷ []), Some (located_fault 3 BadByte))
+    ∷ (lines_text (codes "machine 0" ∷ codes "image x hex" ∷ (200 ∷ []) ∷ codes "end" ∷ []), Some (located_fault 3 BadByte))
     -- and before the assembler's faults
-    ∷ (text (codes "machine 0" ∷ codes "image x asm" ∷ codes "fly" ∷ (200 ∷ []) ∷ codes "end" ∷ []), Some (located_fault 4 BadByte))
+    ∷ (lines_text (codes "machine 0" ∷ codes "image x asm" ∷ codes "fly" ∷ (200 ∷ []) ∷ codes "end" ∷ []), Some (located_fault 4 BadByte))
     -- but not before the faults of the image's own line
-    ∷ (text (codes "machine 0" ∷ codes "image 1x hex" ∷ (200 ∷ []) ∷ codes "end" ∷ []), Some (located_fault 2 BadName))
+    ∷ (lines_text (codes "machine 0" ∷ codes "image 1x hex" ∷ (200 ∷ []) ∷ codes "end" ∷ []), Some (located_fault 2 BadName))
     -- a bad word of a body, at its line
-    ∷ (text (codes "machine 0" ∷ codes "image x hex" ∷ codes "00000073" ∷ codes "0000007" ∷ codes "end" ∷ []), Some (located_fault 4 BadImage))
+    ∷ (lines_text (codes "machine 0" ∷ codes "image x hex" ∷ codes "00000073" ∷ codes "0000007" ∷ codes "end" ∷ []), Some (located_fault 4 BadImage))
     -- an image without a word
-    ∷ (text (codes "machine 0" ∷ codes "image x hex" ∷ codes "end" ∷ []), Some (located_fault 2 BadImage))
+    ∷ (lines_text (codes "machine 0" ∷ codes "image x hex" ∷ codes "end" ∷ []), Some (located_fault 2 BadImage))
     -- three bytes are no RKI1
-    ∷ (text (codes "machine 0" ∷ codes "image x rki" ∷ codes "524b49" ∷ codes "end" ∷ []), Some (located_fault 2 BadImage))
+    ∷ (lines_text (codes "machine 0" ∷ codes "image x rki" ∷ codes "524b49" ∷ codes "end" ∷ []), Some (located_fault 2 BadImage))
     -- an odd number of digits, at its line
-    ∷ (text (codes "machine 0" ∷ codes "image x rki" ∷ codes "524b4" ∷ codes "end" ∷ []), Some (located_fault 3 BadImage))
+    ∷ (lines_text (codes "machine 0" ∷ codes "image x rki" ∷ codes "524b4" ∷ codes "end" ∷ []), Some (located_fault 3 BadImage))
     ∷ [])
 unfolding grammar
 bodies = refl
@@ -103,9 +104,9 @@ bodies = refl
 
 forms : AreFirstFaults (
     -- a third word that is no form, with a fourth and without a machine
-    (text (codes "image 1x foo bar" ∷ []), Some (located_fault 1 UnknownWord))
+    (lines_text (codes "image 1x foo bar" ∷ []), Some (located_fault 1 UnknownWord))
     -- two words alone
-    ∷ (text (codes "image 1x" ∷ []), Some (located_fault 1 WordCount))
+    ∷ (lines_text (codes "image 1x" ∷ []), Some (located_fault 1 WordCount))
     ∷ [])
 unfolding grammar
 forms = refl
@@ -114,13 +115,13 @@ forms = refl
 
 operands : AreFirstFaults (
     -- operands are judged from left to right: an unknown image
-    (text (codes "machine 0" ∷ codes "user a" ∷ codes "spawn nobody x 0" ∷ []), Some (located_fault 3 UnknownImage))
+    (lines_text (codes "machine 0" ∷ codes "user a" ∷ codes "spawn nobody x 0" ∷ []), Some (located_fault 3 UnknownImage))
     -- a name that is none
-    ∷ (text (codes "machine 0" ∷ codes "user a" ∷ codes "spawn 1x x 0" ∷ []), Some (located_fault 3 BadName))
+    ∷ (lines_text (codes "machine 0" ∷ codes "user a" ∷ codes "spawn 1x x 0" ∷ []), Some (located_fault 3 BadName))
     -- a process id that is no number
-    ∷ (text (codes "machine 0" ∷ codes "user a" ∷ codes "send 0 x zz" ∷ []), Some (located_fault 3 BadNumber))
+    ∷ (lines_text (codes "machine 0" ∷ codes "user a" ∷ codes "send 0 x zz" ∷ []), Some (located_fault 3 BadNumber))
     -- a ninth user with a bad name
-    ∷ (text (codes "machine 0" ∷ codes "user u0" ∷ codes "user u1" ∷ codes "user u2" ∷ codes "user u3" ∷ codes "user u4" ∷ codes "user u5" ∷ codes "user u6" ∷ codes "user u7" ∷ codes "user 1x" ∷ []), Some (located_fault 10 BadName))
+    ∷ (lines_text (codes "machine 0" ∷ codes "user u0" ∷ codes "user u1" ∷ codes "user u2" ∷ codes "user u3" ∷ codes "user u4" ∷ codes "user u5" ∷ codes "user u6" ∷ codes "user u7" ∷ codes "user 1x" ∷ []), Some (located_fault 10 BadName))
     ∷ [])
 unfolding grammar
 operands = refl
@@ -129,11 +130,11 @@ operands = refl
 
 ends : AreFirstFaults (
     -- `end` outside an image
-    (text (codes "machine 0" ∷ codes "end" ∷ []), Some (located_fault 2 UnknownWord))
+    (lines_text (codes "machine 0" ∷ codes "end" ∷ []), Some (located_fault 2 UnknownWord))
     -- `end end` and `end:` are words of the body
-    ∷ (text (codes "machine 0" ∷ codes "image x hex" ∷ codes "end end" ∷ codes "end:" ∷ codes "end" ∷ []), Some (located_fault 3 BadImage))
+    ∷ (lines_text (codes "machine 0" ∷ codes "image x hex" ∷ codes "end end" ∷ codes "end:" ∷ codes "end" ∷ []), Some (located_fault 3 BadImage))
     -- `end` with a comment ends a body, and any form may have comments
-    ∷ (text (codes "machine 0" ∷ codes "image x hex" ∷ codes "00000073# one" ∷ codes "# two" ∷ codes "end # text" ∷ []), None)
+    ∷ (lines_text (codes "machine 0" ∷ codes "image x hex" ∷ codes "00000073# one" ∷ codes "# two" ∷ codes "end # text" ∷ []), None)
     ∷ [])
 unfolding grammar
 ends = refl
@@ -142,17 +143,17 @@ ends = refl
 
 words_and_names : AreFirstFaults (
     -- a comment ends a word at once
-    (text (codes "machine 0#1" ∷ []), None)
+    (lines_text (codes "machine 0#1" ∷ []), None)
     -- a number may have leading zeros within its ten digits
-    ∷ (text (codes "machine 0000000000" ∷ []), None)
+    ∷ (lines_text (codes "machine 0000000000" ∷ []), None)
     -- but no eleventh digit
-    ∷ (text (codes "machine 00000000000" ∷ []), Some (located_fault 1 BadNumber))
+    ∷ (lines_text (codes "machine 00000000000" ∷ []), Some (located_fault 1 BadNumber))
     -- a node is any number of 32 bits, and a cube may be larger than the machine
-    ∷ (text (codes "machine 0" ∷ codes "user a" ∷ codes "getcube 6" ∷ codes "dump 4294967295 0" ∷ []), None)
+    ∷ (lines_text (codes "machine 0" ∷ codes "user a" ∷ codes "getcube 6" ∷ codes "dump 4294967295 0" ∷ []), None)
     -- and no larger number
-    ∷ (text (codes "machine 0" ∷ codes "user a" ∷ codes "dump 4294967296 0" ∷ []), Some (located_fault 3 BadNumber))
+    ∷ (lines_text (codes "machine 0" ∷ codes "user a" ∷ codes "dump 4294967296 0" ∷ []), Some (located_fault 3 BadNumber))
     -- users and images have names of their own, and every word may be a name
-    ∷ (text (codes "machine 0" ∷ codes "image end hex" ∷ codes "00000073" ∷ codes "end" ∷ codes "user end" ∷ codes "user host" ∷ []), None)
+    ∷ (lines_text (codes "machine 0" ∷ codes "image end hex" ∷ codes "00000073" ∷ codes "end" ∷ codes "user end" ∷ codes "user host" ∷ []), None)
     ∷ [])
 unfolding grammar
 words_and_names = refl

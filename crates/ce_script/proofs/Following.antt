@@ -17,9 +17,9 @@ use Rattle.ce_script.specs.Names.{is_name}
 use Rattle.ce_script.specs.Verbs.{verb_of, is_machine, is_image, is_user, is_command}
 use Rattle.ce_script.specs.Statements.{ScriptStatement, operand, has_verb_kind}
 use Rattle.ce_script.specs.Bodies.{located_fault}
-use Rattle.ce_script.specs.Sayings.{of_kind, stated_names, without_repeats, name_number, operand_place, image_names, users, last_user, command_of_verb, command_of_statement, numbered_command}
+use Rattle.ce_script.specs.Sayings.{statements_of_kind, stated_names, without_repeats, name_number, operand_place, image_names, users, last_user, command_of_verb, command_of_statement, numbered_command}
 use Rattle.ce_script.specs.Faults.{kind_where, is_one_name_of, first_some, statement_fault, image_fault}
-use Rattle.ce_script.specs.Reading.{with_name, word_fault, place_fault, operands_judgment}
+use Rattle.ce_script.specs.Reading.{with_user_name, word_fault, place_fault, operands_judgment}
 use Rattle.ce_script.specs.Standing.{names_so_far, AreFew, with_statement, with_command, rest_fault, verb_fault, line_judgment, statement_judgment, IsBehind, HasReadUpTo}
 use Rattle.ce_script.proofs.Spots.{or_none, map_none, refused_none}
 use Rattle.ce_script.proofs.Judged.{names_append}
@@ -56,7 +56,7 @@ number_front names more name e =
     ap (λ (p : ℕ). unwrap_or (cond (nat_lt p (length (names ++ more))) (Some p) None) 0) (place_front (bytes_eq name) names more e)
     ∙ ap (λ (b : Bool). unwrap_or (cond b (Some n) None) 0) (long ∙ sym short)
 
-with_front : (names : List (List ℕ)) (name : List ℕ) → (extra : List (List ℕ)) × (with_name names name ≡ names ++ extra)
+with_front : (names : List (List ℕ)) (name : List ℕ) → (extra : List (List ℕ)) × (with_user_name names name ≡ names ++ extra)
 with_front names name =
     elim (is_one_name_of names name) as (λ b. (extra : List (List ℕ)) × (cond b names (names ++ name ∷ []) ≡ names ++ extra)) [
       | true ↦ ([], sym (append-nil names))
@@ -78,8 +78,8 @@ distinct_front names (name ∷ more) =
 user_number : (front more : List ScriptStatement) → list_any (has_verb_kind is_user) front ≡ true → name_number (last_user front) (users (front ++ more)) ≡ name_number (last_user front) (users front)
 unfolding users
 user_number front more e =
-    let names = stated_names (of_kind is_user front) in
-    let later = distinct_front names (stated_names (of_kind is_user more)) in
+    let names = stated_names (statements_of_kind is_user front) in
+    let later = distinct_front names (stated_names (statements_of_kind is_user more)) in
     ap (λ all. name_number (last_user front) (without_repeats all)) (names_append is_user front more)
     ∙ ap (name_number (last_user front)) later.1
     ∙ number_front (without_repeats names) later.0 (last_user front) (among_distinct names (last_user front) (last_user_among front e))

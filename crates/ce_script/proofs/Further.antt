@@ -23,16 +23,16 @@ use Rattle.ce_script.specs.declared.script.ScriptFault.{ScriptFault}
 use Rattle.ce_script.specs.declared.script.ScriptKind.{ScriptKind}
 use Rattle.ce_script.specs.declared.script.ScriptKind.TheVariants.{BadByte, UnknownWord, WordCount, TooMany, Assembly, Memory}
 use Rattle.ce_script.specs.Lines.{Line, lines, words, has_bad_byte, later_spots}
-use Rattle.ce_script.specs.Verbs.{verbs, verb_of, is_image, is_command, form_of, operands_of, NewImage}
+use Rattle.ce_script.specs.Verbs.{verbs, verb_of, is_image, is_command, form_of, verb_operands, NewImage}
 use Rattle.ce_script.specs.Statements.{ScriptStatement, operand, are_only, is_end, begins_image, found_body, statements}
 use Rattle.ce_script.specs.Bodies.{located_fault, body_fault}
-use Rattle.ce_script.specs.Faults.{first_fault, first_some, kind_where, operand_fault, is_unknown, has_unknown_form, has_wrong_count, image_fault, statement_fault}
+use Rattle.ce_script.specs.Faults.{first_script_fault, first_some, kind_where, operand_fault, has_unknown_word, has_unknown_form, has_wrong_count, image_fault, statement_fault}
 use Rattle.ce_script.specs.Sayings.{dimension, images, users, commands}
 use Rattle.ce_script.specs.Reading.{ScriptUnless, word_fault, place_fault}
-use Rattle.ce_script.specs.ReadLines.{plain_line, statement_of_line, lines_left, is_inside_behind, remaining_statements, texts_left, numbered_lines, left_of}
+use Rattle.ce_script.specs.ReadLines.{plain_line, statement_of_line, lines_left, is_inside_image_behind, remaining_statements, texts_left, numbered_lines, rest_text}
 use Rattle.ce_script.specs.Scripts.{IsScript, IsNoMemory}
-use Rattle.ce_script.specs.Standing.{blank_script, first_statement_fault, IsBehind, names_so_far, AreFew, new_image_fault, HasReadUpTo, with_statement, rest_fault, verb_fault, begin_fault, statement_judgment, with_body, on_line, IsPast}
-use Rattle.ce_script.specs.ReaderCalls.{HasSaidImage, HasSaidStatement, HasKept}
+use Rattle.ce_script.specs.Standing.{blank_script, first_statement_fault, IsBehind, names_so_far, AreFew, new_image_fault, HasReadUpTo, with_statement, rest_fault, verb_fault, begin_fault, statement_judgment, statement_with_body, statement_on_line, IsPast}
+use Rattle.ce_script.specs.ReaderCalls.{HasReadImage, HasReadStatement, HasReadStatements}
 use Rattle.ce_script.proofs.BodyFaults.{unless_map}
 use Rattle.ce_script.proofs.Following.{has_user, one_further}
 use Rattle.ce_script.proofs.Outside.{from_outside}
@@ -50,13 +50,13 @@ form_there (verb ∷ name ∷ form ∷ others) known e none = let missing = ap i
 pub image_has_form : (here : ScriptStatement) → verb_of (words here.line) ≡ Some Image → word_fault here ≡ None → form_of (operand 2 here) ≡ None → ⊥
 unfolding word_fault
 image_has_form here e right none =
-    let behind = (or_none (kind_where (has_bad_byte here.line) BadByte) (option_or (kind_where (is_unknown here) UnknownWord) (kind_where (has_wrong_count here) WordCount)) right).1 in
-    let both = or_none (kind_where (is_unknown here) UnknownWord) (kind_where (has_wrong_count here) WordCount) behind in
+    let behind = (or_none (kind_where (has_bad_byte here.line) BadByte) (option_or (kind_where (has_unknown_word here) UnknownWord) (kind_where (has_wrong_count here) WordCount)) right).1 in
+    let both = or_none (kind_where (has_unknown_word here) UnknownWord) (kind_where (has_wrong_count here) WordCount) behind in
     let all = words here.line in
     let known : has_unknown_form all ≡ false =
-    sym (ap (λ (found : Option Verb). is_none found || (option_map_or is_image found false && has_unknown_form all)) e) ∙ refused_none (is_unknown here) UnknownWord both.0 in
+    sym (ap (λ (found : Option Verb). is_none found || (option_map_or is_image found false && has_unknown_form all)) e) ∙ refused_none (has_unknown_word here) UnknownWord both.0 in
     let count : not (length all == 3) ≡ false =
-    sym (ap (λ (found : Option Verb). not (length all == 1 + length (option_map_or operands_of found []))) e) ∙ refused_none (has_wrong_count here) WordCount both.1 in
+    sym (ap (λ (found : Option Verb). not (length all == 1 + length (option_map_or verb_operands found []))) e) ∙ refused_none (has_wrong_count here) WordCount both.1 in
     form_there all known ((Decides-eqb (length all) 3).0 (not-false (length all == 3) count)) none
 
 pub no_image : (verb : Verb) → (verb ≡ Image → ⊥) → is_image verb ≡ false
@@ -77,7 +77,7 @@ no_body number (Some form) = refl
 
 module _ (so_far : ScriptSoFar) (line : WordedLine) (rest : Rest) where
   abbrev here : ScriptStatement
-  here = on_line line rest
+  here = statement_on_line line rest
 
   abbrev found : Option Verb
   found = verb_of (words (plain_line line))
@@ -143,19 +143,19 @@ module _ (so_far : ScriptSoFar) (line : WordedLine) (rest : Rest) where
 
   -- an image
   module _ (right : word_fault (statement_of_line line) ≡ None) (is : found ≡ Some Image) (placed : place Image ≡ None) where
-    image_judged : statement_judgment so_far here ≡ option_or (option_map (located_fault line.number) (rest_fault so_far Image (with_body line rest))) (image_fault (with_body line rest))
+    image_judged : statement_judgment so_far here ≡ option_or (option_map (located_fault line.number) (rest_fault so_far Image (statement_with_body line rest))) (image_fault (statement_with_body line rest))
     image_judged =
         judged_behind Image right is placed
         ∙ ap (λ it. option_or (option_map (located_fault line.number) (rest_fault so_far Image it)) (image_fault it)) (here_is Image right is placed true refl)
 
-    pub image_says : (result : Result (Reader × Rest) ScriptFault) → HasSaidImage result so_far line rest
-        → IfOk result (λ next. remaining_statements true (lines_left rest) ≡ remaining_statements false (lines_left next.1)) → HasSaidStatement result so_far line rest
+    pub image_says : (result : Result (Reader × Rest) ScriptFault) → HasReadImage result so_far line rest
+        → IfOk result (λ next. remaining_statements true (lines_left rest) ≡ remaining_statements false (lines_left next.1)) → HasReadStatement result so_far line rest
     image_says (Ok next) says past = record {
       verb = Image;
       is = is;
       none =
           image_judged
-          ∙ ap (λ one. option_or (option_map (located_fault line.number) one) (image_fault (with_body line rest))) says.0 ∙ says.1;
+          ∙ ap (λ one. option_or (option_map (located_fault line.number) one) (image_fault (statement_with_body line rest))) says.0 ∙ says.1;
       state = says.2 ∙ ap (with_statement so_far Image) (sym (here_is Image right is placed true refl));
       past = ap (λ inside. remaining_statements inside (lines_left rest)) (begins_same Image right is placed) ∙ past;
     }
@@ -198,10 +198,10 @@ statements_empty line lines e =
     ap (λ (all : List (List ℕ)). cond ((length all == 0) || false) (others all) (record { line = line; body = cond (begins_image line) (found_body lines) None } ∷ others all)) (no_words (words line) e)
 
 statements_first : (line : Line) (lines : List Line) → (length (words line) == 0) ≡ false
-    → remaining_statements false (line ∷ lines) ≡ record { line = line; body = cond (begins_image line) (found_body lines) None } ∷ remaining_statements (is_inside_behind false line) lines
+    → remaining_statements false (line ∷ lines) ≡ record { line = line; body = cond (begins_image line) (found_body lines) None } ∷ remaining_statements (is_inside_image_behind false line) lines
 unfolding remaining_statements
 statements_first line lines e =
-    let others = remaining_statements (is_inside_behind false line) lines in
+    let others = remaining_statements (is_inside_image_behind false line) lines in
     ap (λ empty. cond (empty || false) others (record { line = line; body = cond (begins_image line) (found_body lines) None } ∷ others)) e
 
 end_is_no_verb : (all : List (List ℕ)) → are_only (codes "end") all ≡ true → verb_of all ≡ None
@@ -210,25 +210,25 @@ end_is_no_verb [] e = absurd cc
 end_is_no_verb (first ∷ []) e = ap (λ word. verb_of (word ∷ [])) ((bytes_eq-Decides first (codes "end")).0 e)
 end_is_no_verb (first ∷ second ∷ others) e = absurd cc
 
-inside_line : (line : Line) (verb : Verb) → verb_of (words line) ≡ Some verb → is_inside_behind false line ≡ begins_image line
+inside_line : (line : Line) (verb : Verb) → verb_of (words line) ≡ Some verb → is_inside_image_behind false line ≡ begins_image line
 inside_line line verb is = by (is_end line) refl
   where
-    by : (ends : Bool) → is_end line ≡ ends → is_inside_behind false line ≡ begins_image line
+    by : (ends : Bool) → is_end line ≡ ends → is_inside_image_behind false line ≡ begins_image line
     by true e = let none = end_is_no_verb (words line) e in absurd cc
     by false e = ap (λ ends. cond ends false (false || begins_image line)) e
 
 pub line_keeps : (old : ScriptSoFar) (line : WordedLine) (rest : Rest) (result : Result (Reader × Rest) ScriptFault) → AreFew old → (length (words (plain_line line)) == 0) ≡ false
-    → HasSaidStatement result old line rest → (all : List ScriptStatement) → HasReadUpTo all old (remaining_statements false (plain_line line ∷ lines_left rest)) → HasKept all result
+    → HasReadStatement result old line rest → (all : List ScriptStatement) → HasReadUpTo all old (remaining_statements false (plain_line line ∷ lines_left rest)) → HasReadStatements all result
 line_keeps old line rest (Ok next) few some past all stands =
-    let here = on_line line rest in
+    let here = statement_on_line line rest in
     let lines = lines_left rest in
     let first = statements_first (plain_line line) lines some ∙ ap (λ inside. here ∷ remaining_statements inside lines) (inside_line (plain_line line) past.verb past.is) in
     let further = one_further all (remaining_statements (begins_image (plain_line line)) lines) here old past.verb past.is (subst (HasReadUpTo all old) first stands) few past.none in
     subst (λ so_far. HasReadUpTo all so_far (remaining_statements false (lines_left next.1))) (sym past.state)
     (subst (HasReadUpTo all (with_statement old past.verb here)) past.past further)
 line_keeps old line rest (Err fault) few some wrong all stands =
-    let here = on_line line rest in
-    let others = remaining_statements (is_inside_behind false (plain_line line)) (lines_left rest) in
+    let here = statement_on_line line rest in
+    let others = remaining_statements (is_inside_image_behind false (plain_line line)) (lines_left rest) in
     let at : HasReadUpTo all old (here ∷ others) = subst (HasReadUpTo all old) (statements_first (plain_line line) (lines_left rest) some) stands in
     unless_map fault.kind _ _
     (λ (e : statement_judgment old here ≡ Some fault).
@@ -243,12 +243,12 @@ unfolding dimension images users
 behind_nothing = record { dim = refl; machine = refl; has_user = refl; user = tt; images = refl; users = refl }
 
 -- the reader begins
-pub begins_reading : (text : List ℕ) (so_far : ScriptSoFar) (rest : Rest) → so_far ≡ blank_script → rest.line_count ≡ 0 → left_of rest ≡ Some text
+pub begins_reading : (text : List ℕ) (so_far : ScriptSoFar) (rest : Rest) → so_far ≡ blank_script → rest.line_count ≡ 0 → rest_text rest ≡ Some text
     → HasReadUpTo (statements text) so_far (remaining_statements false (lines_left rest))
 unfolding commands lines
 begins_reading text so_far rest none before left =
     let all : lines_left rest ≡ numbered_lines 1 (slice_split is_line_feed text) =
-    ap (λ (n : ℕ). numbered_lines (n + 1) (texts_left (left_of rest))) before ∙ ap (λ (left : Option (List ℕ)). numbered_lines 1 (texts_left left)) left in
+    ap (λ (n : ℕ). numbered_lines (n + 1) (texts_left (rest_text rest))) before ∙ ap (λ (left : Option (List ℕ)). numbered_lines 1 (texts_left left)) left in
     subst (λ (so_far : ScriptSoFar). HasReadUpTo (statements text) so_far (remaining_statements false (lines_left rest))) (sym none)
     (subst (HasReadUpTo (statements text) blank_script) (from_outside text ∙ ap (remaining_statements false) (sym all))
     (record { front = []; whole = refl; behind = behind_nothing; faults = refl; commands = refl }))
@@ -258,8 +258,8 @@ pub few_at_first : AreFew blank_script
 few_at_first = record { users = omega arith; images = omega arith }
 
 -- the reader is at the end
-pub ends_reading : (text : List ℕ) (so_far : ScriptSoFar) (rest : Rest) → left_of rest ≡ None → HasReadUpTo (statements text) so_far (remaining_statements false (lines_left rest)) → IsScript text so_far.script
-unfolding first_fault remaining_statements
+pub ends_reading : (text : List ℕ) (so_far : ScriptSoFar) (rest : Rest) → rest_text rest ≡ None → HasReadUpTo (statements text) so_far (remaining_statements false (lines_left rest)) → IsScript text so_far.script
+unfolding first_script_fault remaining_statements
 ends_reading text so_far rest none stands = by (subst (HasReadUpTo (statements text) so_far) (ap (λ (left : Option (List ℕ)). remaining_statements false (numbered_lines (rest.line_count + 1) (texts_left left))) none) stands)
   where
     by : HasReadUpTo (statements text) so_far [] → IsScript text so_far.script
@@ -284,6 +284,6 @@ pub is_no_want : (kind : ScriptKind) (P : Type 0) → ScriptUnless kind P → (w
 is_no_want (Assembly (kinds.Memory want)) P known other e = known
 is_no_want kind P known other e = cc
 
-pub first_is : (text : List ℕ) (fault : ScriptFault) → first_statement_fault (statements text) ≡ Some fault → first_fault text ≡ Some fault
-unfolding first_fault
+pub first_is : (text : List ℕ) (fault : ScriptFault) → first_statement_fault (statements text) ≡ Some fault → first_script_fault text ≡ Some fault
+unfolding first_script_fault
 first_is text fault e = e

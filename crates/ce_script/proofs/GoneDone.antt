@@ -1,5 +1,6 @@
--- The worked row in which a process sends a block to its host and then touches it: the entries and the reply of each command, among
--- them `dump` and `trace`. What the process says is a premise, so that no memory is computed.
+-- The worked row in which a process sends a block to its host and then touches it: the entries and
+-- the reply of each command, among them `dump` and `trace`. What the process says is a premise, so
+-- that no memory is computed.
 use Rattle.std.proofs.Common.{◌≡◌, ℕ, List, [], ◌∷◌, ◌++◌, Some, None, true, refl}
 use Rattle.rv_model.specs.Image.{ImageParts}
 use Rattle.rv_model.specs.declared.stop.Stop.TheVariants.{Gone}
@@ -42,12 +43,13 @@ the_cube image = one_cube 0 image
 
 -- ---- what the process says
 
--- the node once it was given the start, once its message is posted, and once its process has stopped
-abbrev begun : ImageParts → Node
-begun image = node_after_hearing (image ∷ []) (says (opening_node 0 0 1)).node (start_of 0 0)
+-- the node once it was given the start, once its message is posted, and once its process has
+-- stopped
+abbrev started_node : ImageParts → Node
+started_node image = node_after_hearing (image ∷ []) (says (opening_node 0 0 1)).node (start_of 0 0)
 
 abbrev posted : ImageParts → Node
-posted image = node_after_hearing (image ∷ []) (says (begun image)).node (answer_of 0)
+posted image = node_after_hearing (image ∷ []) (says (started_node image)).node (answer_of 0)
 
 abbrev ended : ImageParts → Node
 ended image = (says (says (posted image)).node).node

@@ -1,15 +1,16 @@
 -- A small script, computed: what it says.
 use Rattle.std.proofs.Common.{ℕ, List, [], ◌∷◌, Some, refl, codes}
+use Rattle.ce_text.specs.Line.{lines_text}
 use Rattle.rv_model.specs.Image.{image_parts}
 use Rattle.ce_host.specs.declared.command.Command.TheVariants.{Getcube, Spawn, Run}
 use Rattle.ce_script.specs.declared.script.Script.{Script}
 use Rattle.ce_script.specs.Sayings.{dimension, images, commands, command_of_statement}
 use Rattle.ce_script.specs.Scripts.{IsScript}
-use Rattle.ce_script.proofs.Computing.{text, grammar}
+use Rattle.ce_script.proofs.Computing.{grammar}
 use Rattle.ce_script.proofs.FirstFaults.{hello_is_right}
 
 abbrev pub hello : List ℕ
-hello = text (codes "machine 0" ∷ codes "image hello hex" ∷ codes "02A00513 00E00893 00000073 00D00893 00000073" ∷ codes "end" ∷ codes "user alice" ∷ codes "getcube 0" ∷ codes "spawn hello 0 0" ∷ codes "run 10" ∷ [])
+hello = lines_text (codes "machine 0" ∷ codes "image hello hex" ∷ codes "02A00513 00E00893 00000073 00D00893 00000073" ∷ codes "end" ∷ codes "user alice" ∷ codes "getcube 0" ∷ codes "spawn hello 0 0" ∷ codes "run 10" ∷ [])
 
 -- the bytes of its image
 abbrev pub hello_bytes : List ℕ

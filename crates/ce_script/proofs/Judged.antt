@@ -8,11 +8,11 @@ use Rattle.std.specs.List.{AllByRecursion, enumerate_from}
 use Rattle.ce_script.specs.declared.grammar.Verb.{Verb}
 use Rattle.ce_script.specs.declared.grammar.Verb.TheVariants.{Machine, Image, User}
 use Rattle.ce_script.specs.Lines.{Spot, spots, words}
-use Rattle.ce_script.specs.Verbs.{verb_of, is_machine, is_image, is_user, operands_of}
+use Rattle.ce_script.specs.Verbs.{verb_of, is_machine, is_image, is_user, verb_operands}
 use Rattle.ce_script.specs.Statements.{ScriptStatement, operand, has_verb_kind}
 use Rattle.ce_script.specs.Bodies.{located_fault}
-use Rattle.ce_script.specs.Sayings.{of_kind, stated_names}
-use Rattle.ce_script.specs.Faults.{expected_operands, lacks_machine, lacks_user, placed_fault, operands_fault, is_one_too_many, line_faults, line_fault, image_fault, statement_fault}
+use Rattle.ce_script.specs.Sayings.{statements_of_kind, stated_names}
+use Rattle.ce_script.specs.Faults.{expected_operands, lacks_machine, lacks_user, placed_fault, operands_fault, is_one_too_many, own_line_faults, own_line_fault, image_fault, statement_fault}
 use Rattle.ce_script.proofs.Spots.{or_none, map_none, each_none, each_mapped_none, refused_none, each_of}
 
 -- ---- a statement without a fault
@@ -25,10 +25,10 @@ pub record IsRight (spot : Spot ScriptStatement) : Type 0 where
   pub many : is_one_too_many spot ≡ false
 
 right : (spot : Spot ScriptStatement) → statement_fault spot ≡ None → IsRight spot
-unfolding line_fault operands_fault
+unfolding own_line_fault operands_fault
 right spot e =
-    let line = map_none (located_fault spot.here.line.number) (line_fault spot) (or_none (option_map (located_fault spot.here.line.number) (line_fault spot)) (image_fault spot.here) e).0 in
-    let rows = each_none (line_faults spot) line in
+    let line = map_none (located_fault spot.here.line.number) (own_line_fault spot) (or_none (option_map (located_fault spot.here.line.number) (own_line_fault spot)) (image_fault spot.here) e).0 in
+    let rows = each_none (own_line_faults spot) line in
     record {
       machine = refused_none _ _ rows.1.1.1.0;
       user = refused_none _ _ rows.1.1.1.1.1.0;
@@ -43,9 +43,9 @@ each_right all each = each_of (λ spot. statement_fault spot ≡ None) IsRight (
 
 -- the operands of a statement with this verb are right
 pub operands_right : (spot : Spot ScriptStatement) (verb : Verb) → verb_of (words spot.here.line) ≡ Some verb → IsRight spot
-    → AllByRecursion (λ placed. placed_fault spot placed ≡ None) (enumerate_from 1 (operands_of verb))
+    → AllByRecursion (λ placed. placed_fault spot placed ≡ None) (enumerate_from 1 (verb_operands verb))
 operands_right spot verb e is =
-    let P : Option Verb → Type 0 = λ found. AllByRecursion (λ placed. placed_fault spot placed ≡ None) (enumerate_from 1 (option_map_or operands_of found [])) in
+    let P : Option Verb → Type 0 = λ found. AllByRecursion (λ placed. placed_fault spot placed ≡ None) (enumerate_from 1 (option_map_or verb_operands found [])) in
     subst P e is.operands
 
 -- the verb of a statement of a kind that one verb alone has
@@ -67,5 +67,5 @@ user_alone other e = absurd cc
 
 -- ---- names
 
-pub names_append : (kind : Verb → Bool) (before more : List ScriptStatement) → stated_names (of_kind kind (before ++ more)) ≡ stated_names (of_kind kind before) ++ stated_names (of_kind kind more)
-names_append kind before more = ap stated_names (filter-append (has_verb_kind kind) before more) ∙ map-append (operand 1) (of_kind kind before) (of_kind kind more)
+pub names_append : (kind : Verb → Bool) (before more : List ScriptStatement) → stated_names (statements_of_kind kind (before ++ more)) ≡ stated_names (statements_of_kind kind before) ++ stated_names (statements_of_kind kind more)
+names_append kind before more = ap stated_names (filter-append (has_verb_kind kind) before more) ∙ map-append (operand 1) (statements_of_kind kind before) (statements_of_kind kind more)

@@ -19,8 +19,8 @@ use Rattle.ce_script.specs.Lines.{words, has_bad_byte}
 use Rattle.ce_text.specs.Bytes.{is_digit, is_letter, is_name_byte}
 use Rattle.ce_text.specs.Name as text
 use Rattle.ce_script.specs.Names.{is_name}
-use Rattle.ce_text.specs.Table.{look_up}
-use Rattle.ce_script.specs.Verbs.{verbs, verb_of, is_image, operands_of, OldImage}
+use Rattle.ce_text.specs.Table.{table_value}
+use Rattle.ce_script.specs.Verbs.{verbs, verb_of, is_image, verb_operands, OldImage}
 use Rattle.ce_script.specs.Statements.{ScriptStatement, operand}
 use Rattle.ce_script.specs.Sayings.{name_number}
 use Rattle.ce_script.specs.Faults.{kind_where, has_unknown_form, is_one_name_of, operand_fault}
@@ -151,19 +151,19 @@ new_speaks so_far name n e f =
 
 -- ---- words
 
-first_word : (all : List (List ℕ)) → look_up verbs (get_or all 0 []) ≡ verb_of all
+first_word : (all : List (List ℕ)) → table_value verbs (get_or all 0 []) ≡ verb_of all
 unfolding verb_of verbs
 first_word [] = refl
 first_word (word ∷ words) = refl
 
-pub verb_found : (here : ScriptStatement) (found : Option Verb) → found ≡ look_up verbs (operand 0 here) → verb_of (words here.line) ≡ found
+pub verb_found : (here : ScriptStatement) (found : Option Verb) → found ≡ table_value verbs (operand 0 here) → verb_of (words here.line) ≡ found
 verb_found here found e = sym (e ∙ first_word (words here.line))
 
 abbrev judged_by : (here : ScriptStatement) (found : Option Verb) → Option ScriptKind
 judged_by here found =
     option_or (kind_where (has_bad_byte here.line) BadByte)
     (option_or (kind_where (is_none found || (option_map_or is_image found false && has_unknown_form (words here.line))) UnknownWord)
-    (kind_where (not (length (words here.line) == 1 + length (option_map_or operands_of found []))) WordCount))
+    (kind_where (not (length (words here.line) == 1 + length (option_map_or verb_operands found []))) WordCount))
 
 judged_is : (here : ScriptStatement) (found : Option Verb) → verb_of (words here.line) ≡ found → word_fault here ≡ judged_by here found
 unfolding word_fault
@@ -191,15 +191,15 @@ agree : (m n : ℕ) → m ≡ n → m == n ≡ true
 agree m n h = grind (arith, nat_tests)
 
 pub wrong_count : (here : ScriptStatement) (verb : Verb) → has_bad_byte here.line ≡ false → verb_of (words here.line) ≡ Some verb → HasForm verb here
-    → (length (words here.line) ≡ 1 + length (operands_of verb) → ⊥) → word_fault here ≡ Some WordCount
+    → (length (words here.line) ≡ 1 + length (verb_operands verb) → ⊥) → word_fault here ≡ Some WordCount
 wrong_count here verb e f form ne =
-    let count = differ (length (words here.line)) (1 + length (operands_of verb)) ne in
+    let count = differ (length (words here.line)) (1 + length (verb_operands verb)) ne in
     judged_is here (Some verb) f ∙ rw (e, form, count) refl
 
 pub right_words : (here : ScriptStatement) (verb : Verb) → has_bad_byte here.line ≡ false → verb_of (words here.line) ≡ Some verb → HasForm verb here
-    → length (words here.line) ≡ 1 + length (operands_of verb) → word_fault here ≡ None
+    → length (words here.line) ≡ 1 + length (verb_operands verb) → word_fault here ≡ None
 right_words here verb e f form same =
-    let count = agree (length (words here.line)) (1 + length (operands_of verb)) same in
+    let count = agree (length (words here.line)) (1 + length (verb_operands verb)) same in
     judged_is here (Some verb) f ∙ rw (e, form, count) refl
 
 -- ---- names as text

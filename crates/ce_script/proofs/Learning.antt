@@ -14,8 +14,8 @@ use Rattle.ce_script.specs.declared.script.NamedImage.{NamedImage}
 use Rattle.ce_script.specs.Lines.{words}
 use Rattle.ce_script.specs.Verbs.{verb_of, is_machine, is_image, is_user}
 use Rattle.ce_script.specs.Statements.{ScriptStatement, operand, has_verb_kind}
-use Rattle.ce_script.specs.Sayings.{of_kind, stated_names, name_number, operand_number, stated_image, dimension, images, users, last_user}
-use Rattle.ce_script.specs.Reading.{with_name}
+use Rattle.ce_script.specs.Sayings.{statements_of_kind, stated_names, name_number, operand_number, stated_image, dimension, images, users, last_user}
+use Rattle.ce_script.specs.Reading.{with_user_name}
 use Rattle.ce_script.specs.Standing.{with_statement, with_command, IsBehind}
 use Rattle.ce_script.proofs.Stepping.{kind_is, more_users, names_more}
 
@@ -51,10 +51,10 @@ made_if false here = []
 images_more : (front : List ScriptStatement) (here : ScriptStatement) (is : Bool) → has_verb_kind is_image here ≡ is → images (front ++ here ∷ []) ≡ images front ++ made_if is here
 unfolding images
 images_more front here is e =
-    ap (map made_of) (filter-append (has_verb_kind is_image) front (here ∷ [])) ∙ map-append made_of (of_kind is_image front) (of_kind is_image (here ∷ []))
-    ∙ ap (λ (b : Bool). map made_of (of_kind is_image front) ++ map made_of (cond b (here ∷ []) [])) e ∙ by is
+    ap (map made_of) (filter-append (has_verb_kind is_image) front (here ∷ [])) ∙ map-append made_of (statements_of_kind is_image front) (statements_of_kind is_image (here ∷ []))
+    ∙ ap (λ (b : Bool). map made_of (statements_of_kind is_image front) ++ map made_of (cond b (here ∷ []) [])) e ∙ by is
   where
-    by : (b : Bool) → map made_of (of_kind is_image front) ++ map made_of (cond b (here ∷ []) []) ≡ map made_of (of_kind is_image front) ++ made_if b here
+    by : (b : Bool) → map made_of (statements_of_kind is_image front) ++ map made_of (cond b (here ∷ []) []) ≡ map made_of (statements_of_kind is_image front) ++ made_if b here
     by true = refl
     by false = refl
 
@@ -65,12 +65,12 @@ last_more first (it ∷ all) one = last_more (Some it) all one
 last_user_more : (front : List ScriptStatement) (here : ScriptStatement) (is : Bool) → has_verb_kind is_user here ≡ is → last_user (front ++ here ∷ []) ≡ cond is (operand 1 here) (last_user front)
 last_user_more front here true e =
     ap (λ names. unwrap_or (last_or None names) []) (names_more is_user front here true e)
-    ∙ ap (λ last. unwrap_or last []) (last_more None (stated_names (of_kind is_user front)) (operand 1 here))
+    ∙ ap (λ last. unwrap_or last []) (last_more None (stated_names (statements_of_kind is_user front)) (operand 1 here))
 last_user_more front here false e =
-    ap (λ names. unwrap_or (last_or None names) []) (names_more is_user front here false e ∙ append-nil (stated_names (of_kind is_user front)))
+    ap (λ names. unwrap_or (last_or None names) []) (names_more is_user front here false e ∙ append-nil (stated_names (statements_of_kind is_user front)))
 
 users_kept : (front : List ScriptStatement) (here : ScriptStatement) (verb : Verb) → verb_of (words here.line) ≡ Some verb → is_user verb ≡ false → users (front ++ here ∷ []) ≡ users front
-users_kept front here verb e f = more_users front here verb e ∙ ap (λ b. cond b (with_name (users front) (operand 1 here)) (users front)) f
+users_kept front here verb e f = more_users front here verb e ∙ ap (λ b. cond b (with_user_name (users front) (operand 1 here)) (users front)) f
 
 -- ---- behind one statement more, by its kind
 
@@ -137,7 +137,7 @@ behind_image so_far front here e is = record {
 pub behind_user : (so_far : ScriptSoFar) (front : List ScriptStatement) (here : ScriptStatement) → verb_of (words here.line) ≡ Some User
     → IsBehind so_far front → IsBehind (with_statement so_far User here) (front ++ here ∷ [])
 behind_user so_far front here e is =
-    let more = ap (λ known. with_name known (operand 1 here)) is.users ∙ sym (more_users front here User e) in
+    let more = ap (λ known. with_user_name known (operand 1 here)) is.users ∙ sym (more_users front here User e) in
     let last = last_user_more front here true (kind_is is_user here User e) in
     record {
       dim = is.dim ∙ sym (dim_more front here false (kind_is is_machine here User e) ∙ keeps_option (dimension front));

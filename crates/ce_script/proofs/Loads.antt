@@ -1,10 +1,11 @@
 -- The load of seed 0, computed.
 use Rattle.std.proofs.Common.{◌≡◌, ℕ, List, [], ◌∷◌, ◌++◌, None, refl, codes}
+use Rattle.ce_text.specs.Line.{lines_text}
 use Rattle.ce_script.specs.Sayings.{dimension, images, commands, command_of_statement}
-use Rattle.ce_script.specs.Faults.{first_fault}
+use Rattle.ce_script.specs.Faults.{first_script_fault}
 use Rattle.ce_script.specs.Scripts.{IsScript}
 use Rattle.ce_script.specs.Load.{ring_lines, ring_image, load, load_message}
-use Rattle.ce_script.proofs.Computing.{text, grammar}
+use Rattle.ce_script.proofs.Computing.{grammar}
 use Rattle.ce_script.proofs.Assembling.{assembler}
 
 -- the first words of the messages of seed 0, and how often each is handed over
@@ -37,14 +38,14 @@ user_lines name digits =
 -- the script of seed 0 as somebody would write it
 load_0 : List ℕ
 load_0 =
-    text ((codes "machine 4" ∷ codes "image ring asm" ∷ [])
+    lines_text ((codes "machine 4" ∷ codes "image ring asm" ∷ [])
     ++ (ring_lines
     ++ ((codes "end" ∷ [])
     ++ (user_lines (codes "u0") (codes "5ff36e3ca00f0000")
     ++ (user_lines (codes "u1") (codes "32295047a00f0000")
     ++ (user_lines (codes "u2") (codes "e9f6ccd1a00f0000") ++ user_lines (codes "u3") (codes "3453f9aaa00f0000")))))))
 
-load_0_is_right : first_fault load_0 ≡ None
+load_0_is_right : first_script_fault load_0 ≡ None
 unfolding load_0 grammar assembler
 load_0_is_right = refl
 

@@ -11,7 +11,7 @@ use Rattle.ce_script.specs.Lines.{Spot, spots, later_spots, words}
 use Rattle.ce_script.specs.Names.{is_name}
 use Rattle.ce_script.specs.Verbs.{verb_of, is_image, is_user}
 use Rattle.ce_script.specs.Statements.{ScriptStatement, operand, has_verb_kind}
-use Rattle.ce_script.specs.Sayings.{of_kind, stated_names, image_names, users}
+use Rattle.ce_script.specs.Sayings.{statements_of_kind, stated_names, image_names, users}
 use Rattle.ce_script.specs.Faults.{is_one_name_of, kind_where}
 use Rattle.ce_script.specs.Bounds.{AreNames}
 use Rattle.ce_script.proofs.Spots.{or_none, refused_none, each_of}
@@ -25,10 +25,10 @@ each_here P before (here ∷ behind) each = (each.0, each_here P (before ++ here
 
 -- what holds of the names of statements of a kind
 each_name : (kind : Verb → Bool) (P : List ℕ → Type 0) (all : List ScriptStatement) → AllByRecursion (λ one. has_verb_kind kind one ≡ true → P (operand 1 one)) all
-    → AllByRecursion P (stated_names (of_kind kind all))
+    → AllByRecursion P (stated_names (statements_of_kind kind all))
 each_name kind P [] each = tt
 each_name kind P (one ∷ others) each =
-    elim (has_verb_kind kind one) as (λ b. has_verb_kind kind one ≡ b → AllByRecursion P (stated_names (cond b (one ∷ of_kind kind others) (of_kind kind others)))) [
+    elim (has_verb_kind kind one) as (λ b. has_verb_kind kind one ≡ b → AllByRecursion P (stated_names (cond b (one ∷ statements_of_kind kind others) (statements_of_kind kind others)))) [
       | true ↦ λ is. (each.0 is, each_name kind P others each.1)
       | false ↦ λ _. each_name kind P others each.1
     ] refl
@@ -54,7 +54,7 @@ image_name spot right is =
 
 -- ---- different names
 
-joined : (before : List ScriptStatement) (here : ScriptStatement) → image_names (before ++ here ∷ []) ≡ image_names before ++ stated_names (of_kind is_image (here ∷ []))
+joined : (before : List ScriptStatement) (here : ScriptStatement) → image_names (before ++ here ∷ []) ≡ image_names before ++ stated_names (statements_of_kind is_image (here ∷ []))
 unfolding image_names
 joined before here = names_append is_image before (here ∷ [])
 
@@ -80,7 +80,7 @@ user_names_are all each =
     let IsName : List ℕ → Type 0 = λ name. IsTrue (is_name name) in
     let HasName : ScriptStatement → Type 0 = λ one. has_verb_kind is_user one ≡ true → IsName (operand 1 one) in
     let said = each_here HasName [] all (each_of IsRight (λ spot. HasName spot.here) (spots all) user_name each) in
-    record { each = distinct_each IsName (stated_names (of_kind is_user all)) (each_name is_user IsName all said); distinct = distinct_are_distinct (stated_names (of_kind is_user all)) }
+    record { each = distinct_each IsName (stated_names (statements_of_kind is_user all)) (each_name is_user IsName all said); distinct = distinct_are_distinct (stated_names (statements_of_kind is_user all)) }
 
 pub image_names_are : (all : List ScriptStatement) → AllByRecursion IsRight (spots all) → AreNames (image_names all)
 unfolding image_names IsDistinct

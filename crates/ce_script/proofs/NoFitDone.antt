@@ -1,7 +1,8 @@
--- The worked row in which no cube of dimension 1 is free: who gives a cube back, is refused, and looks which cubes are held.
+-- The worked row in which no cube of dimension 1 is free: who gives a cube back, is refused, and
+-- looks which cubes are held.
 use Rattle.std.proofs.Common.{ℕ, List, [], ◌∷◌, take, Some, None, refl}
 use Rattle.ce_model.specs.Limits.{greatest_dim}
-use Rattle.ce_model.specs.Subcubes.{extract, deposit, subcubes, first_free}
+use Rattle.ce_model.specs.Subcubes.{extract, deposit, subcubes, first_free_subcube}
 use Rattle.ce_model.specs.Machine.{after}
 use Rattle.ce_host.specs.declared.command.Command.{Command}
 use Rattle.ce_host.specs.declared.command.Command.TheVariants.{Getcube, Peek, Freecube}
@@ -40,5 +41,5 @@ d_did kind = record {
 
 -- d is refused as `none`, since none of the subcubes of dimension 1 is free
 pub d_refused : AreRefusedExactly (machine_of the_script) d_doings
-unfolding moments holding after first_free subcubes extract deposit greatest_dim
+unfolding moments holding after first_free_subcube subcubes extract deposit greatest_dim
 d_refused = (record { held = (λ h. absurd (cc), λ h. absurd (cc)); none = (λ h. (refl, refl), λ h. refl) }, (tt, tt))

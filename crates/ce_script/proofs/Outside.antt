@@ -6,8 +6,8 @@ use Rattle.std.proofs.lemmas.List.Folds.{list_any-append}
 use Rattle.std.specs.Prelude.{filter_map, reverse}
 use Rattle.std.specs.List.{list_any, cons_option, suffix_len, prefix_len, before_first, position_or_len}
 use Rattle.ce_script.specs.Lines.{Line, later_spots, lines, words}
-use Rattle.ce_script.specs.Statements.{is_end, begins_image, is_inside, found_body, line_statement, standing_statement, statements}
-use Rattle.ce_script.specs.ReadLines.{is_inside_behind, remaining_statements}
+use Rattle.ce_script.specs.Statements.{is_end, begins_image, is_inside_image, found_body, line_statement, standing_statement, statements}
+use Rattle.ce_script.specs.ReadLines.{is_inside_image_behind, remaining_statements}
 
 -- ---- inside an image, one line further
 
@@ -35,19 +35,19 @@ after_by before line false n le =
     ∙ list_any-append begins_image (drop (length before - n) before) (line ∷ [])
     ∙ ap (λ last. list_any begins_image (drop (length before - n) before) || last) (or_no (begins_image line))
 
-inside_more : (before : List Line) (line : Line) → is_inside (before ++ line ∷ []) ≡ is_inside_behind (is_inside before) line
+inside_more : (before : List Line) (line : Line) → is_inside_image (before ++ line ∷ []) ≡ is_inside_image_behind (is_inside_image before) line
 inside_more before line =
     let goes : Line → Bool = λ one. not (is_end one) in
     ap (λ (n : ℕ). list_any begins_image (drop (length (before ++ line ∷ []) - n) (before ++ line ∷ []))) (last_suffix goes before line)
     ∙ after_by before line (is_end line) (suffix_len goes before) (omega (arith, suffix_short goes (reverse before), length-reverse before))
 
 -- the statements of lines that stand behind others
-statements_behind : (before behind : List Line) → filter_map standing_statement (later_spots before behind) ≡ remaining_statements (is_inside before) behind
+statements_behind : (before behind : List Line) → filter_map standing_statement (later_spots before behind) ≡ remaining_statements (is_inside_image before) behind
 unfolding remaining_statements standing_statement
 statements_behind before [] = refl
 statements_behind before (line ∷ behind) =
     let others = statements_behind (before ++ line ∷ []) behind ∙ ap (λ inside. remaining_statements inside behind) (inside_more before line) in
-    elim ((length (words line) == 0) || is_inside before) as (λ test. cons_option (cond test None (Some (line_statement (record { before = before; here = line; behind = behind })))) (filter_map standing_statement (later_spots (before ++ line ∷ []) behind)) ≡ cond test (remaining_statements (is_inside_behind (is_inside before) line) behind) (record { line = line; body = cond (begins_image line) (found_body behind) None } ∷ remaining_statements (is_inside_behind (is_inside before) line) behind)) [
+    elim ((length (words line) == 0) || is_inside_image before) as (λ test. cons_option (cond test None (Some (line_statement (record { before = before; here = line; behind = behind })))) (filter_map standing_statement (later_spots (before ++ line ∷ []) behind)) ≡ cond test (remaining_statements (is_inside_image_behind (is_inside_image before) line) behind) (record { line = line; body = cond (begins_image line) (found_body behind) None } ∷ remaining_statements (is_inside_image_behind (is_inside_image before) line) behind)) [
       | true ↦ others
       | false ↦ ap (λ rest. record { line = line; body = cond (begins_image line) (found_body behind) None } ∷ rest) others
     ]
@@ -58,10 +58,10 @@ from_outside text = statements_behind [] (lines text)
 
 -- ---- behind a body
 
-inside_goes : (line : Line) (behind : List Line) → remaining_statements true (line ∷ behind) ≡ remaining_statements (is_inside_behind true line) behind
+inside_goes : (line : Line) (behind : List Line) → remaining_statements true (line ∷ behind) ≡ remaining_statements (is_inside_image_behind true line) behind
 unfolding remaining_statements
 inside_goes line behind =
-    elim (length (words line) == 0) as (λ empty. cond (empty || true) (remaining_statements (is_inside_behind true line) behind) (record { line = line; body = cond (begins_image line) (found_body behind) None } ∷ remaining_statements (is_inside_behind true line) behind) ≡ remaining_statements (is_inside_behind true line) behind) [
+    elim (length (words line) == 0) as (λ empty. cond (empty || true) (remaining_statements (is_inside_image_behind true line) behind) (record { line = line; body = cond (begins_image line) (found_body behind) None } ∷ remaining_statements (is_inside_image_behind true line) behind) ≡ remaining_statements (is_inside_image_behind true line) behind) [
       | true ↦ refl
       | false ↦ refl
     ]

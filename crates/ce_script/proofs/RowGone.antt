@@ -1,6 +1,7 @@
 -- The worked row in which a process sends a block to its host and then touches it.
 use Rattle.std.proofs.Common.{◌≡◌, ℕ, List, [], ◌∷◌, Some, None, true, codes, refl}
 use Rattle.std.specs.Fmt.{digits}
+use Rattle.ce_text.specs.Line.{lines_text}
 use Rattle.rv_model.specs.Image.{ImageParts}
 use Rattle.rv_model.specs.declared.stop.Stop.TheVariants.{Gone}
 use Rattle.hex.specs.Hex.{encode_with}
@@ -19,7 +20,7 @@ use Rattle.ce_host.specs.declared.answer.Answer.TheVariants as answers
 use Rattle.ce_script.specs.declared.record.Record.{Record}
 use Rattle.ce_script.specs.declared.script.Script.{Script}
 use Rattle.ce_script.specs.Texts.{report}
-use Rattle.ce_script.proofs.Rows.{lines, entry_of, place, block, subcube}
+use Rattle.ce_script.proofs.Rows.{entry_of, place, block, subcube}
 
 abbrev pub the_script : ImageParts → Script
 the_script image = record {
@@ -46,7 +47,7 @@ the_record = record {
 }
 
 abbrev pub the_report : List ℕ
-the_report = lines (
+the_report = lines_text (
     codes "machine 0" ∷ codes "user alice" ∷ codes "getcube 0" ∷ codes "= granted mask 0 base 0" ∷ codes "spawn gone 0 0" ∷ codes "= ok"
     ∷ codes "run 10" ∷ codes "= quiet" ∷ codes "dump 0 0" ∷ codes "= stopped gone 0x80000000" ∷ codes "recv 0"
     ∷ codes "= message 0.0 0700000000000000" ∷ codes "trace" ∷ codes "= entries 8" ∷ codes "cube 0 user alice dim 0 mask 0 base 0"

@@ -1,6 +1,8 @@
--- The worked row in which a process notes 42, run with threads: the round with work ends idle, and the last round is idle.
+-- The worked row in which a process notes 42, run with threads: the round with work ends idle, and
+-- the last round is idle.
 use Rattle.std.proofs.Common.{◌≡◌, ℕ, List, [], ◌∷◌, Some, None, true, codes, refl}
 use Rattle.std.specs.Fmt.{digits}
+use Rattle.ce_text.specs.Line.{lines_text}
 use Rattle.rv_model.specs.Image.{ImageParts}
 use Rattle.ce_model.specs.Limits.{greatest_dim}
 use Rattle.ce_model.specs.declared.topology.TheConstants.{HOST}
@@ -14,7 +16,7 @@ use Rattle.ce_host.specs.declared.answer.Answer.TheVariants as answers
 use Rattle.ce_script.specs.declared.record.Record.{Record}
 use Rattle.ce_script.specs.declared.script.Script.{Script}
 use Rattle.ce_script.specs.Texts.{report}
-use Rattle.ce_script.proofs.Rows.{lines, entry_of, place, subcube}
+use Rattle.ce_script.proofs.Rows.{entry_of, place, subcube}
 
 abbrev pub the_script : ImageParts → Script
 the_script image = record {
@@ -36,7 +38,7 @@ the_record = record {
 }
 
 abbrev pub the_report : List ℕ
-the_report = lines (
+the_report = lines_text (
     codes "machine 0" ∷ codes "user alice" ∷ codes "getcube 0" ∷ codes "= granted mask 0 base 0" ∷ codes "spawn hello 0 0" ∷ codes "= ok"
     ∷ codes "run 10" ∷ codes "= quiet" ∷ codes "cube 0 user alice dim 0 mask 0 base 0" ∷ codes "host spawn 0 hello 0.0 ok"
     ∷ codes "host arm 10" ∷ codes "node 0 take 0 0 - start 0 hello" ∷ codes "node 0 note 0 42" ∷ codes "node 0 take 0 1 - idle"

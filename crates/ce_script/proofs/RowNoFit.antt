@@ -1,6 +1,8 @@
--- The worked row in which two nodes are free that are no cube of dimension 1: one user is refused, and looks which cubes are held.
+-- The worked row in which two nodes are free that are no cube of dimension 1: one user is refused,
+-- and looks which cubes are held.
 use Rattle.std.proofs.Common.{◌≡◌, ℕ, List, [], ◌∷◌, Some, None, codes, refl}
 use Rattle.std.specs.Fmt.{digits}
+use Rattle.ce_text.specs.Line.{lines_text}
 use Rattle.ce_model.specs.Limits.{greatest_dim}
 use Rattle.ce_model.specs.declared.topology.TheConstants.{HOST}
 use Rattle.ce_model.specs.declared.entry.What.TheVariants as whats
@@ -13,7 +15,7 @@ use Rattle.ce_script.specs.declared.record.UserRecord.{UserRecord}
 use Rattle.ce_script.specs.declared.record.Record.{Record}
 use Rattle.ce_script.specs.declared.script.Script.{Script}
 use Rattle.ce_script.specs.Texts.{report}
-use Rattle.ce_script.proofs.Rows.{lines, entry_of, subcube}
+use Rattle.ce_script.proofs.Rows.{entry_of, subcube}
 
 abbrev pub the_script : Script
 the_script = record {
@@ -44,7 +46,7 @@ the_record = record {
 }
 
 abbrev pub the_report : List ℕ
-the_report = lines (
+the_report = lines_text (
     codes "machine 2" ∷ codes "user a" ∷ codes "getcube 0" ∷ codes "= granted mask 0 base 0" ∷ codes "freecube" ∷ codes "= freed"
     ∷ codes "user b" ∷ codes "getcube 0" ∷ codes "= granted mask 0 base 1" ∷ codes "user c" ∷ codes "getcube 0"
     ∷ codes "= granted mask 0 base 2" ∷ codes "user d" ∷ codes "getcube 1" ∷ codes "= none" ∷ codes "peek"

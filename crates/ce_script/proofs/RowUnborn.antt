@@ -1,6 +1,8 @@
--- The worked row in which messages wait for a process that is started later, and come back in order.
+-- The worked row in which messages wait for a process that is started later, and come back in
+-- order.
 use Rattle.std.proofs.Common.{◌≡◌, ℕ, List, [], ◌∷◌, Some, None, true, codes, refl}
 use Rattle.std.specs.Fmt.{digits}
+use Rattle.ce_text.specs.Line.{lines_text}
 use Rattle.rv_model.specs.Image.{ImageParts}
 use Rattle.hex.specs.Hex.{encode_with}
 use Rattle.ce_model.specs.declared.topology.TheConstants.{HOST}
@@ -18,7 +20,7 @@ use Rattle.ce_host.specs.declared.answer.Answer.TheVariants as answers
 use Rattle.ce_script.specs.declared.record.Record.{Record}
 use Rattle.ce_script.specs.declared.script.Script.{Script}
 use Rattle.ce_script.specs.Texts.{report}
-use Rattle.ce_script.proofs.Rows.{first_bytes, second_bytes, lines, entry_of, place, block, subcube}
+use Rattle.ce_script.proofs.Rows.{first_bytes, second_bytes, entry_of, place, block, subcube}
 
 abbrev pub the_script : ImageParts → Script
 the_script image = record {
@@ -30,11 +32,11 @@ the_script image = record {
 }
 
 -- the host sends its block of this index, and the process sends it back
-abbrev pub sent : ℕ → List ℕ → ℕ → What
-sent index bytes first = whats.Send 0 first ((place 0 0, block 256 index) ∷ []) bytes
+abbrev pub host_send : ℕ → List ℕ → ℕ → What
+host_send index bytes first = whats.Send 0 first ((place 0 0, block 256 index) ∷ []) bytes
 
-abbrev pub sent_back : ℕ → List ℕ → ℕ → What
-sent_back index bytes first = whats.Send 0 first ((place HOST 0, block 256 index) ∷ []) bytes
+abbrev pub reply_send : ℕ → List ℕ → ℕ → What
+reply_send index bytes first = whats.Send 0 first ((place HOST 0, block 256 index) ∷ []) bytes
 
 abbrev pub alice_done : List (Command × Answer)
 alice_done =
@@ -44,18 +46,18 @@ alice_done =
 abbrev pub the_record : Record
 the_record = record {
   users = record { name = codes "alice"; done = alice_done } ∷ [];
-  history = entry_of 0 HOST (whats.Getcube 0 (Some (subcube 0 0))) ∷ entry_of 0 HOST (sent 0 first_bytes 0) ∷ entry_of 0 HOST (sent 1 second_bytes 1)
+  history = entry_of 0 HOST (whats.Getcube 0 (Some (subcube 0 0))) ∷ entry_of 0 HOST (host_send 0 first_bytes 0) ∷ entry_of 0 HOST (host_send 1 second_bytes 1)
       ∷ entry_of 0 HOST (whats.Spawn 0 0 (place 0 0) true)
       ∷ entry_of 0 HOST (whats.Arm 100) ∷ entry_of 0 HOST (whats.HostTake None) ∷ entry_of 0 0 (whats.Take 0 0 None (Start 0 0)) ∷ entry_of 0 HOST (whats.HostTake None)
-      ∷ entry_of 0 0 (whats.Take 1 0 None (Mail 0 0)) ∷ entry_of 0 0 (sent_back 0 first_bytes 2) ∷ entry_of 0 HOST (whats.HostTake (Some 2))
-      ∷ entry_of 0 HOST (whats.Arm 100) ∷ entry_of 0 HOST (whats.HostTake None) ∷ entry_of 0 0 (whats.Take 1 0 None (Mail 0 1)) ∷ entry_of 0 0 (sent_back 1 second_bytes 3)
+      ∷ entry_of 0 0 (whats.Take 1 0 None (Mail 0 0)) ∷ entry_of 0 0 (reply_send 0 first_bytes 2) ∷ entry_of 0 HOST (whats.HostTake (Some 2))
+      ∷ entry_of 0 HOST (whats.Arm 100) ∷ entry_of 0 HOST (whats.HostTake None) ∷ entry_of 0 0 (whats.Take 1 0 None (Mail 0 1)) ∷ entry_of 0 0 (reply_send 1 second_bytes 3)
       ∷ entry_of 0 HOST (whats.HostTake (Some 3))
       ∷ entry_of 0 HOST (whats.Arm 100) ∷ entry_of 0 HOST (whats.HostTake None) ∷ entry_of 0 0 (whats.Take 1 0 None Idle) ∷ entry_of 0 HOST (whats.HostTake None)
       ∷ entry_of 0 HOST (whats.Look look_result.Quiet) ∷ [];
 }
 
 abbrev pub the_report : List ℕ
-the_report = lines (
+the_report = lines_text (
     codes "machine 0" ∷ codes "user alice" ∷ codes "getcube 0" ∷ codes "= granted mask 0 base 0" ∷ codes "send 0 0 aa" ∷ codes "= ok"
     ∷ codes "send 0 0 bb" ∷ codes "= ok" ∷ codes "spawn echo 0 0" ∷ codes "= ok" ∷ codes "recv 100" ∷ codes "= message 0.0 aa"
     ∷ codes "recv 100" ∷ codes "= message 0.0 bb" ∷ codes "recv 100" ∷ codes "= none" ∷ codes "cube 0 user alice dim 0 mask 0 base 0"

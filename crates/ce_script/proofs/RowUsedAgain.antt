@@ -1,7 +1,8 @@
--- The worked row in which a cube is given back with messages that wait, and its node is used again: what is written about the
--- history of the model's row.
+-- The worked row in which a cube is given back with messages that wait, and its node is used again:
+-- what is written about the history of the model's row.
 use Rattle.std.proofs.Common.{◌≡◌, ℕ, List, [], ◌∷◌, ◌++◌, Some, codes, refl}
 use Rattle.std.specs.Fmt.{digits}
+use Rattle.ce_text.specs.Line.{lines_text}
 use Rattle.rv_model.specs.Image.{ImageParts}
 use Rattle.hex.specs.Hex.{encode_with}
 pub use Rattle.ce_script.proofs.Rows.{first_bytes, second_bytes, third_bytes}
@@ -16,7 +17,7 @@ use Rattle.ce_host.specs.declared.answer.Answer.TheVariants as answers
 use Rattle.ce_script.specs.declared.record.Record.{Record}
 use Rattle.ce_script.specs.declared.script.Script.{Script}
 use Rattle.ce_script.specs.Texts.{report}
-use Rattle.ce_script.proofs.Rows.{lines, place, subcube}
+use Rattle.ce_script.proofs.Rows.{place, subcube}
 
 abbrev pub the_script : ImageParts → Script
 the_script image = record {
@@ -42,7 +43,7 @@ the_record = record {
 }
 
 abbrev pub the_report : List ℕ
-the_report = lines (
+the_report = lines_text (
     codes "machine 0" ∷ codes "user alice" ∷ codes "getcube 0" ∷ codes "= granted mask 0 base 0" ∷ codes "send 0 0 aa" ∷ codes "= ok"
     ∷ codes "send 0 0 bb" ∷ codes "= ok" ∷ codes "send 0 0 cc" ∷ codes "= ok" ∷ codes "freecube" ∷ codes "= freed" ∷ codes "user bob"
     ∷ codes "getcube 0" ∷ codes "= granted mask 0 base 0" ∷ codes "spawn waiter 0 0" ∷ codes "= ok" ∷ codes "run 10" ∷ codes "= quiet"

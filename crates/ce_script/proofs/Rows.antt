@@ -1,5 +1,5 @@
 -- What the worked rows are written down with, and what holds of a cube of one node.
-use Rattle.std.proofs.Common.{refl, ◌++◌, ◌∷◌, ℕ, zero, suc, List, [], IsTrue, flat_map, take, drop, sym, append-nil, arith}
+use Rattle.std.proofs.Common.{refl, ◌++◌, ◌∷◌, ℕ, zero, suc, List, [], IsTrue, take, drop, sym, append-nil, arith}
 use Rattle.rv_model.specs.Image.{ImageParts}
 use Rattle.ce_model.specs.declared.topology.TheConstants.{HOST}
 use Rattle.ce_model.specs.declared.entry.Entry.{Entry}
@@ -14,10 +14,6 @@ use Rattle.ce_script.specs.Rounds.{RoundKind, IsTurn, IsSerialRound, IsRoundWith
 use Rattle.ce_script.specs.Commands.{IsRun}
 use Rattle.ce_script.specs.Moments.{moments}
 use Rattle.ce_script.specs.Doings.{Doing}
-
--- lines of text
-abbrev pub lines : List (List ℕ) → List ℕ
-lines texts = flat_map (λ text. text ++ 10 ∷ []) texts
 
 -- a command whose entries are so many of the history, behind so many
 abbrev pub doing_in : List Entry → Command → Answer → ℕ → ℕ → Doing

@@ -1,11 +1,11 @@
 -- Records of scripts that do nothing.
 use Rattle.std.proofs.Common.{◌≡◌, List, [], ◌∷◌, Some, None, codes, refl, arith}
 use Rattle.std.specs.Fmt.{digits}
+use Rattle.ce_text.specs.Line.{lines_text}
 use Rattle.ce_model.specs.declared.entry.Entry.{Entry}
 use Rattle.ce_model.specs.Machine.{MachineParts, IsLawful}
 use Rattle.ce_script.specs.declared.record.Record.{Record}
 use Rattle.ce_script.specs.Texts.{report}
-use Rattle.ce_script.proofs.Rows.{lines}
 
 abbrev nothing_done : Record
 nothing_done = record { users = []; history = [] }
@@ -20,6 +20,6 @@ empty_is_reported : report (record { dim = None; images = []; users = []; comman
 unfolding report
 empty_is_reported = refl
 
-machine_is_reported : report (record { dim = Some 0; images = []; users = []; commands = [] }) nothing_done ≡ lines (codes "machine 0" ∷ codes "end" ∷ [])
+machine_is_reported : report (record { dim = Some 0; images = []; users = []; commands = [] }) nothing_done ≡ lines_text (codes "machine 0" ∷ codes "end" ∷ [])
 unfolding report digits
 machine_is_reported = refl

@@ -1,4 +1,5 @@
--- How the parts of a fault come together, and how a statement is judged by what the earlier ones say.
+-- How the parts of a fault come together, and how a statement is judged by what the earlier ones
+-- say.
 use Rattle.std.proofs.Common.{◌≡◌, ℕ, ◌≤◌, List, [], ◌∷◌, ◌++◌, length, Bool, true, false, not, cond, ◌&&◌, ◌||◌, Option, Some, None, refl, sym, ap, ◌∙◌, append-nil, arith, nat_lt, map}
 use Rattle.std.proofs.lemmas.Bool.Decides.{nat_tests}
 use Rattle.std.proofs.lemmas.List.{length-map}
@@ -14,12 +15,12 @@ use Rattle.ce_script.specs.declared.script.ScriptKind.{ScriptKind}
 use Rattle.ce_script.specs.declared.script.ScriptKind.TheVariants.{BadByte, WordCount, NoMachine, SecondMachine, NoUser, BadName, TooMany, NoEnd, UnknownWord}
 use Rattle.ce_script.specs.Lines.{Spot, words, has_bad_byte}
 use Rattle.ce_script.specs.Names.{is_name}
-use Rattle.ce_script.specs.Verbs.{verb_of, is_machine, is_image, is_user, is_command, Operand, operands_of, NewImage}
+use Rattle.ce_script.specs.Verbs.{verb_of, is_machine, is_image, is_user, is_command, Operand, verb_operands, NewImage}
 use Rattle.ce_script.specs.Statements.{ScriptStatement, operand, has_verb_kind}
 use Rattle.ce_script.specs.Bodies.{located_fault}
-use Rattle.ce_script.specs.Sayings.{of_kind, stated_names, without_repeats, stated_image, images, image_names, users}
-use Rattle.ce_script.specs.Faults.{first_some, kind_where, is_unknown, has_wrong_count, has_unknown_form, operand_fault, operands_fault, is_one_too_many, lacks_end, lacks_machine, lacks_user, is_second_machine, line_fault, image_fault, statement_fault}
-use Rattle.ce_script.specs.Reading.{word_fault, place_fault, operands_judgment, with_name}
+use Rattle.ce_script.specs.Sayings.{statements_of_kind, stated_names, without_repeats, stated_image, images, image_names, users}
+use Rattle.ce_script.specs.Faults.{first_some, kind_where, has_unknown_word, has_wrong_count, has_unknown_form, operand_fault, operands_fault, is_one_too_many, lacks_end, lacks_machine, lacks_user, is_second_machine, own_line_fault, image_fault, statement_fault}
+use Rattle.ce_script.specs.Reading.{word_fault, place_fault, operands_judgment, with_user_name}
 use Rattle.ce_script.specs.Standing.{names_so_far, AreFew, rest_fault, verb_fault, line_judgment, statement_judgment, IsBehind}
 use Rattle.ce_script.proofs.Judged.{names_append}
 use Rattle.ce_script.proofs.Users.{distinct_behind_one}
@@ -37,11 +38,11 @@ or_none (Some x) = refl
 -- ---- what one statement more says
 
 pub names_more : (kind : Verb → Bool) (front : List ScriptStatement) (here : ScriptStatement) (is : Bool) → has_verb_kind kind here ≡ is
-    → stated_names (of_kind kind (front ++ here ∷ [])) ≡ cond is (stated_names (of_kind kind front) ++ operand 1 here ∷ []) (stated_names (of_kind kind front) ++ [])
+    → stated_names (statements_of_kind kind (front ++ here ∷ [])) ≡ cond is (stated_names (statements_of_kind kind front) ++ operand 1 here ∷ []) (stated_names (statements_of_kind kind front) ++ [])
 names_more kind front here true e =
-    names_append kind front (here ∷ []) ∙ ap (λ (b : Bool). stated_names (of_kind kind front) ++ stated_names (cond b (here ∷ []) [])) e
+    names_append kind front (here ∷ []) ∙ ap (λ (b : Bool). stated_names (statements_of_kind kind front) ++ stated_names (cond b (here ∷ []) [])) e
 names_more kind front here false e =
-    names_append kind front (here ∷ []) ∙ ap (λ (b : Bool). stated_names (of_kind kind front) ++ stated_names (cond b (here ∷ []) [])) e
+    names_append kind front (here ∷ []) ∙ ap (λ (b : Bool). stated_names (statements_of_kind kind front) ++ stated_names (cond b (here ∷ []) [])) e
 
 -- the kind of a statement with this verb
 pub kind_is : (kind : Verb → Bool) (here : ScriptStatement) (verb : Verb) → verb_of (words here.line) ≡ Some verb → has_verb_kind kind here ≡ kind verb
@@ -49,7 +50,7 @@ kind_is kind here verb e = ap (λ found. option_map_or kind found false) e
 
 named_names : (front : List ScriptStatement) → map (λ (named : NamedImage). named.name) (images front) ≡ image_names front
 unfolding images image_names
-named_names front = mapped (of_kind is_image front)
+named_names front = mapped (statements_of_kind is_image front)
   where
     mapped : (all : List ScriptStatement) → map (λ (named : NamedImage). named.name) (map (λ (one : ScriptStatement). record { name = operand 1 one; image = stated_image one }) all) ≡ stated_names all
     mapped [] = refl
@@ -77,22 +78,22 @@ module _ (bytes unknown count machine second user operands many end : Option Scr
 -- ---- how many users and images there are
 
 more_names : (kind : Verb → Bool) (front : List ScriptStatement) (here : ScriptStatement) (verb : Verb) → verb_of (words here.line) ≡ Some verb
-    → stated_names (of_kind kind (front ++ here ∷ [])) ≡ stated_names (of_kind kind front) ++ cond (kind verb) (operand 1 here ∷ []) []
+    → stated_names (statements_of_kind kind (front ++ here ∷ [])) ≡ stated_names (statements_of_kind kind front) ++ cond (kind verb) (operand 1 here ∷ []) []
 more_names kind front here verb e = by (kind verb) (kind_is kind here verb e)
   where
-    by : (is : Bool) → has_verb_kind kind here ≡ is → stated_names (of_kind kind (front ++ here ∷ [])) ≡ stated_names (of_kind kind front) ++ cond is (operand 1 here ∷ []) []
+    by : (is : Bool) → has_verb_kind kind here ≡ is → stated_names (statements_of_kind kind (front ++ here ∷ [])) ≡ stated_names (statements_of_kind kind front) ++ cond is (operand 1 here ∷ []) []
     by true e = names_more kind front here true e
     by false e = names_more kind front here false e
 
 -- the users behind one statement more
 pub more_users : (front : List ScriptStatement) (here : ScriptStatement) (verb : Verb) → verb_of (words here.line) ≡ Some verb
-    → users (front ++ here ∷ []) ≡ cond (is_user verb) (with_name (users front) (operand 1 here)) (users front)
+    → users (front ++ here ∷ []) ≡ cond (is_user verb) (with_user_name (users front) (operand 1 here)) (users front)
 unfolding users
 more_users front here verb e = ap without_repeats (more_names is_user front here verb e) ∙ by (is_user verb)
   where
-    by : (is : Bool) → without_repeats (stated_names (of_kind is_user front) ++ cond is (operand 1 here ∷ []) []) ≡ cond is (with_name (without_repeats (stated_names (of_kind is_user front))) (operand 1 here)) (without_repeats (stated_names (of_kind is_user front)))
-    by true = distinct_behind_one (stated_names (of_kind is_user front)) (operand 1 here)
-    by false = ap without_repeats (append-nil (stated_names (of_kind is_user front)))
+    by : (is : Bool) → without_repeats (stated_names (statements_of_kind is_user front) ++ cond is (operand 1 here ∷ []) []) ≡ cond is (with_user_name (without_repeats (stated_names (statements_of_kind is_user front))) (operand 1 here)) (without_repeats (stated_names (statements_of_kind is_user front)))
+    by true = distinct_behind_one (stated_names (statements_of_kind is_user front)) (operand 1 here)
+    by false = ap without_repeats (append-nil (stated_names (statements_of_kind is_user front)))
 
 -- the names of the images behind one statement more
 pub more_images : (front : List ScriptStatement) (here : ScriptStatement) (verb : Verb) → verb_of (words here.line) ≡ Some verb
@@ -106,11 +107,11 @@ no_more_than most n le = grind (arith, nat_tests)
 -- what the reader asks behind some statements
 pub too_many : (so_far : ScriptSoFar) (front rest : List ScriptStatement) (here : ScriptStatement) (verb : Verb) → IsBehind so_far front → AreFew so_far → verb_of (words here.line) ≡ Some verb
     → is_one_too_many (record { before = front; here = here; behind = rest })
-    ≡ (nat_lt greatest_users (length (cond (is_user verb) (with_name so_far.script.users (operand 1 here)) so_far.script.users))
+    ≡ (nat_lt greatest_users (length (cond (is_user verb) (with_user_name so_far.script.users (operand 1 here)) so_far.script.users))
     || nat_lt greatest_images (length (names_so_far so_far ++ cond (is_image verb) (operand 1 here ∷ []) [])))
 too_many so_far front rest here verb is few e =
-    ap (λ all. nat_lt greatest_users (length all) || nat_lt greatest_images (length (image_names (front ++ here ∷ [])))) (more_users front here verb e ∙ ap (λ known. cond (is_user verb) (with_name known (operand 1 here)) known) (sym is.users))
-    ∙ ap (λ all. nat_lt greatest_users (length (cond (is_user verb) (with_name so_far.script.users (operand 1 here)) so_far.script.users)) || nat_lt greatest_images (length all)) (more_images front here verb e ∙ ap (λ known. known ++ cond (is_image verb) (operand 1 here ∷ []) []) (sym (known_names so_far front is)))
+    ap (λ all. nat_lt greatest_users (length all) || nat_lt greatest_images (length (image_names (front ++ here ∷ [])))) (more_users front here verb e ∙ ap (λ known. cond (is_user verb) (with_user_name known (operand 1 here)) known) (sym is.users))
+    ∙ ap (λ all. nat_lt greatest_users (length (cond (is_user verb) (with_user_name so_far.script.users (operand 1 here)) so_far.script.users)) || nat_lt greatest_images (length all)) (more_images front here verb e ∙ ap (λ known. known ++ cond (is_image verb) (operand 1 here ∷ []) []) (sym (known_names so_far front is)))
 
 -- ---- the whole fault of a statement
 
@@ -118,8 +119,8 @@ placed_same : (front rest : List ScriptStatement) (here : ScriptStatement) (so_f
     → operands_fault (record { before = front; here = here; behind = rest }) ≡ operands_judgment (names_so_far so_far) verb here
 unfolding operands_fault operands_judgment
 placed_same front rest here so_far verb is e =
-    ap (λ (names : List (List ℕ)). first_some (map (λ placed. operand_fault names placed.1 (operand placed.0 here)) (enumerate_from 1 (option_map_or operands_of (verb_of (words here.line)) [])))) (sym (known_names so_far front is))
-    ∙ ap (λ (found : Option Verb). first_some (map (λ placed. operand_fault (names_so_far so_far) placed.1 (operand placed.0 here)) (enumerate_from 1 (option_map_or operands_of found [])))) e
+    ap (λ (names : List (List ℕ)). first_some (map (λ placed. operand_fault names placed.1 (operand placed.0 here)) (enumerate_from 1 (option_map_or verb_operands (verb_of (words here.line)) [])))) (sym (known_names so_far front is))
+    ∙ ap (λ (found : Option Verb). first_some (map (λ placed. operand_fault (names_so_far so_far) placed.1 (operand placed.0 here)) (enumerate_from 1 (option_map_or verb_operands found [])))) e
 
 -- the fault of the place
 place_same : (front rest : List ScriptStatement) (here : ScriptStatement) (so_far : ScriptSoFar) (verb : Verb) → IsBehind so_far front → verb_of (words here.line) ≡ Some verb
@@ -138,7 +139,7 @@ place_same front rest here so_far verb is e =
 -- what stands behind the operands
 abbrev behind_operands : (so_far : ScriptSoFar) (verb : Verb) (here : ScriptStatement) → Option ScriptKind
 behind_operands so_far verb here =
-    option_or (kind_where (nat_lt greatest_users (length (cond (is_user verb) (with_name so_far.script.users (operand 1 here)) so_far.script.users))
+    option_or (kind_where (nat_lt greatest_users (length (cond (is_user verb) (with_user_name so_far.script.users (operand 1 here)) so_far.script.users))
     || nat_lt greatest_images (length (names_so_far so_far ++ cond (is_image verb) (operand 1 here ∷ []) []))) TooMany)
     (kind_where (is_image verb && is_none here.body) NoEnd)
 
@@ -163,7 +164,7 @@ unfolding operands_judgment
 rest_same so_far User here few =
     let name = operand 1 here in
     let bad = kind_where (not (is_name name)) BadName in
-    let more = nat_lt greatest_users (length (with_name so_far.script.users name)) in
+    let more = nat_lt greatest_users (length (with_user_name so_far.script.users name)) in
     ap (λ images. option_or (option_or bad None) (option_or (kind_where (more || images) TooMany) None)) (few_images so_far few)
     ∙ ap (λ over. option_or (option_or bad None) (option_or (kind_where over TooMany) None)) (or_false more)
     ∙ ap (λ rest. option_or (option_or bad None) rest) (or_none (kind_where more TooMany))
@@ -190,30 +191,30 @@ rest_same so_far Trace here few = few_by _ _ (operands_judgment (names_so_far so
 
 -- the table of a statement with a verb
 with_verb : (front rest : List ScriptStatement) (here : ScriptStatement) (so_far : ScriptSoFar) (verb : Verb) → IsBehind so_far front → AreFew so_far → verb_of (words here.line) ≡ Some verb
-    → line_fault (record { before = front; here = here; behind = rest }) ≡ line_judgment so_far here
-unfolding line_fault word_fault
+    → own_line_fault (record { before = front; here = here; behind = rest }) ≡ line_judgment so_far here
+unfolding own_line_fault word_fault
 with_verb front rest here so_far verb is few e =
     let spot : Spot ScriptStatement = record { before = front; here = here; behind = rest } in
     let word = word_fault here in
     let end = kind_where (lacks_end here) NoEnd in
     let many = kind_where (is_one_too_many spot) TooMany in
-    in_parts (kind_where (has_bad_byte here.line) BadByte) (kind_where (is_unknown here) UnknownWord) (kind_where (has_wrong_count here) WordCount) (kind_where (lacks_machine spot) NoMachine) (kind_where (is_second_machine spot) SecondMachine) (kind_where (lacks_user spot) NoUser) (operands_fault spot) many end
+    in_parts (kind_where (has_bad_byte here.line) BadByte) (kind_where (has_unknown_word here) UnknownWord) (kind_where (has_wrong_count here) WordCount) (kind_where (lacks_machine spot) NoMachine) (kind_where (is_second_machine spot) SecondMachine) (kind_where (lacks_user spot) NoUser) (operands_fault spot) many end
     ∙ ap (λ place. option_or word (option_or place (option_or (operands_fault spot) (option_or many end)))) (place_same front rest here so_far verb is e)
     ∙ ap (λ operands. option_or word (option_or (place_fault (is_some so_far.script.dim) (is_some so_far.user) verb) (option_or operands (option_or many end)))) (placed_same front rest here so_far verb is e)
     ∙ ap (λ over. option_or word (option_or (place_fault (is_some so_far.script.dim) (is_some so_far.user) verb) (option_or (operands_judgment (names_so_far so_far) verb here) (option_or (kind_where over TooMany) end)))) (too_many so_far front rest here verb is few e)
-    ∙ ap (λ image. option_or word (option_or (place_fault (is_some so_far.script.dim) (is_some so_far.user) verb) (option_or (operands_judgment (names_so_far so_far) verb here) (option_or (kind_where (nat_lt greatest_users (length (cond (is_user verb) (with_name so_far.script.users (operand 1 here)) so_far.script.users)) || nat_lt greatest_images (length (names_so_far so_far ++ cond (is_image verb) (operand 1 here ∷ []) []))) TooMany) (kind_where (image && is_none here.body) NoEnd))))) (kind_is is_image here verb e)
+    ∙ ap (λ image. option_or word (option_or (place_fault (is_some so_far.script.dim) (is_some so_far.user) verb) (option_or (operands_judgment (names_so_far so_far) verb here) (option_or (kind_where (nat_lt greatest_users (length (cond (is_user verb) (with_user_name so_far.script.users (operand 1 here)) so_far.script.users)) || nat_lt greatest_images (length (names_so_far so_far ++ cond (is_image verb) (operand 1 here ∷ []) []))) TooMany) (kind_where (image && is_none here.body) NoEnd))))) (kind_is is_image here verb e)
     ∙ ap (λ rest. option_or word (option_or (place_fault (is_some so_far.script.dim) (is_some so_far.user) verb) rest)) (rest_same so_far verb here few)
     ∙ ap (λ found. option_or word (option_and_then (λ it. verb_fault so_far it here) found)) (sym e)
 
 without_verb : (front rest : List ScriptStatement) (here : ScriptStatement) (so_far : ScriptSoFar) → verb_of (words here.line) ≡ None
-    → line_fault (record { before = front; here = here; behind = rest }) ≡ line_judgment so_far here
-unfolding line_fault word_fault
+    → own_line_fault (record { before = front; here = here; behind = rest }) ≡ line_judgment so_far here
+unfolding own_line_fault word_fault
 without_verb front rest here so_far e =
     let bytes = kind_where (has_bad_byte here.line) BadByte in
     let spot : Spot ScriptStatement = record { before = front; here = here; behind = rest } in
     let count = kind_where (has_wrong_count here) WordCount in
     let later = option_or count (option_or (kind_where (lacks_machine spot) NoMachine) (option_or (kind_where (is_second_machine spot) SecondMachine) (option_or (kind_where (lacks_user spot) NoUser) (option_or (operands_fault spot) (option_or (kind_where (is_one_too_many spot) TooMany) (option_or (kind_where (lacks_end here) NoEnd) None)))))) in
-    let unknown : kind_where (is_unknown here) UnknownWord ≡ Some UnknownWord = ap (λ (found : Option Verb). kind_where (is_none found || (has_verb_kind is_image here && has_unknown_form (words here.line))) UnknownWord) e in
+    let unknown : kind_where (has_unknown_word here) UnknownWord ≡ Some UnknownWord = ap (λ (found : Option Verb). kind_where (is_none found || (has_verb_kind is_image here && has_unknown_form (words here.line))) UnknownWord) e in
     ap (λ it. option_or bytes (option_or it later)) unknown
     ∙ last bytes (option_and_then (λ it. verb_fault so_far it here) (verb_of (words here.line)))
     ∙ sym (ap (λ it. option_or (option_or bytes (option_or it count)) (option_and_then (λ it. verb_fault so_far it here) (verb_of (words here.line)))) unknown)
@@ -223,10 +224,10 @@ without_verb front rest here so_far e =
     last (Some kind) behind = refl
 
 pub line_same : (front rest : List ScriptStatement) (here : ScriptStatement) (so_far : ScriptSoFar) → IsBehind so_far front → AreFew so_far
-    → line_fault (record { before = front; here = here; behind = rest }) ≡ line_judgment so_far here
+    → own_line_fault (record { before = front; here = here; behind = rest }) ≡ line_judgment so_far here
 line_same front rest here so_far is few = by (verb_of (words here.line)) refl
   where
-    by : (found : Option Verb) → verb_of (words here.line) ≡ found → line_fault (record { before = front; here = here; behind = rest }) ≡ line_judgment so_far here
+    by : (found : Option Verb) → verb_of (words here.line) ≡ found → own_line_fault (record { before = front; here = here; behind = rest }) ≡ line_judgment so_far here
     by None e = without_verb front rest here so_far e
     by (Some verb) e = with_verb front rest here so_far verb is few e
 

@@ -1,5 +1,6 @@
--- The worked row in which messages wait for a process that is started later: the entries and the reply of each command, among them
--- `recv` with a message and without one. What the process says is a premise, so that no memory is computed.
+-- The worked row in which messages wait for a process that is started later: the entries and the
+-- reply of each command, among them `recv` with a message and without one. What the process says is
+-- a premise, so that no memory is computed.
 use Rattle.std.proofs.Common.{◌≡◌, ℕ, List, [], ◌∷◌, ◌++◌, Some, None, true, refl}
 use Rattle.rv_model.specs.Image.{ImageParts}
 use Rattle.ce_model.specs.declared.topology.TheConstants.{HOST}
@@ -25,7 +26,7 @@ use Rattle.ce_script.specs.Commands.{IsRecv, message_next, no_message}
 use Rattle.ce_script.specs.Doings.{Doing, AreDoings}
 use Rattle.ce_script.specs.Legal.{machine_of}
 use Rattle.ce_script.proofs.Rows.{first_bytes, second_bytes, doing_in, one_cube, turn_is_round, turns_over, entry_of, place, block, subcube}
-use Rattle.ce_script.proofs.RowUnborn.{sent, sent_back, the_script, the_record, alice_done}
+use Rattle.ce_script.proofs.RowUnborn.{the_script, the_record, alice_done, host_send, reply_send}
 
 abbrev doing : Command → Answer → ℕ → ℕ → Doing
 doing = doing_in the_record.history
@@ -46,11 +47,11 @@ abbrev parcel : ℕ → List ℕ → Parcel
 parcel number bytes = record { from = place HOST 0; to = place 0 0; number = number; block = record { id = block 256 number; bytes = bytes } }
 
 -- the node once it was given the start, each message, and the answer to its sending it back
-abbrev begun : ImageParts → Node
-begun image = node_after_hearing (image ∷ []) (says (opening_node 0 0 1)).node (start_of 0 0)
+abbrev started_node : ImageParts → Node
+started_node image = node_after_hearing (image ∷ []) (says (opening_node 0 0 1)).node (start_of 0 0)
 
 abbrev given_aa : ImageParts → Node
-given_aa image = node_after_hearing (image ∷ []) (says (begun image)).node (mail_of (parcel 0 first_bytes))
+given_aa image = node_after_hearing (image ∷ []) (says (started_node image)).node (mail_of (parcel 0 first_bytes))
 
 abbrev sent_aa : ImageParts → Node
 sent_aa image = node_after_hearing (image ∷ []) (says (given_aa image)).node (answer_of 0)
@@ -76,10 +77,10 @@ abbrev start_round : List Entry
 start_round = entry_of 0 0 (whats.Take 0 0 None (Start 0 0)) ∷ []
 
 abbrev aa_round : List Entry
-aa_round = entry_of 0 0 (whats.Take 1 0 None (Mail 0 0)) ∷ entry_of 0 0 (sent_back 0 first_bytes 2) ∷ []
+aa_round = entry_of 0 0 (whats.Take 1 0 None (Mail 0 0)) ∷ entry_of 0 0 (reply_send 0 first_bytes 2) ∷ []
 
 abbrev bb_round : List Entry
-bb_round = entry_of 0 0 (whats.Take 1 0 None (Mail 0 1)) ∷ entry_of 0 0 (sent_back 1 second_bytes 3) ∷ []
+bb_round = entry_of 0 0 (whats.Take 1 0 None (Mail 0 1)) ∷ entry_of 0 0 (reply_send 1 second_bytes 3) ∷ []
 
 abbrev idle_round : List Entry
 idle_round = entry_of 0 0 (whats.Take 1 0 None Idle) ∷ []
@@ -94,7 +95,7 @@ abbrev third_segment : List Entry
 third_segment = entry_of 0 HOST (whats.Arm 100) ∷ looked ∷ (idle_round ++ looked ∷ entry_of 0 HOST (whats.Look look_result.Quiet) ∷ [])
 
 abbrev first_trace : List Entry
-first_trace = entry_of 0 HOST (sent 0 first_bytes 0) ∷ entry_of 0 HOST (sent 1 second_bytes 1) ∷ entry_of 0 HOST (whats.Spawn 0 0 (place 0 0) true) ∷ first_segment
+first_trace = entry_of 0 HOST (host_send 0 first_bytes 0) ∷ entry_of 0 HOST (host_send 1 second_bytes 1) ∷ entry_of 0 HOST (whats.Spawn 0 0 (place 0 0) true) ∷ first_segment
 
 abbrev second_trace : List Entry
 second_trace = first_trace ++ second_segment

@@ -1,5 +1,5 @@
--- The worked row in which a node is used again: which users, commands and entries the record has, and that each reply is right.
--- What the process says is a premise, so that no memory is computed.
+-- The worked row in which a node is used again: which users, commands and entries the record has,
+-- and that each reply is right. What the process says is a premise, so that no memory is computed.
 use Rattle.std.proofs.Common.{◌≡◌, ℕ, List, [], ◌∷◌, ◌++◌, Some, None, true, refl}
 use Rattle.rv_model.specs.Image.{ImageParts}
 use Rattle.ce_model.specs.declared.topology.TheConstants.{HOST}
@@ -56,14 +56,15 @@ abbrev pub bob_cube : ImageParts → Cube
 bob_cube image = one_cube 1 image
 
 -- the node once it was given the start
-abbrev pub begun : ImageParts → Node
-begun image = node_after_hearing (image ∷ []) (says (opening_node 0 0 1)).node (start_of 0 0)
+abbrev pub started_node : ImageParts → Node
+started_node image = node_after_hearing (image ∷ []) (says (opening_node 0 0 1)).node (start_of 0 0)
 
--- what the process says: at first the node asks for work; then its process waits for a message, and does so still
+-- what the process says: at first the node asks for work; then its process waits for a message, and
+-- does so still
 pub record HasSaidRow (image : ImageParts) : Type 0 where
   pub asks : (says (opening_node 0 0 1)).call ≡ take_call 0 0 None
-  pub waits : (says (begun image)).call ≡ take_call 1 0 None
-  pub still : (says (says (begun image)).node).call ≡ take_call 1 0 None
+  pub waits : (says (started_node image)).call ≡ take_call 1 0 None
+  pub still : (says (says (started_node image)).node).call ≡ take_call 1 0 None
 
 abbrev pub start_round : List Entry
 start_round = entry_of 1 0 (whats.Take 0 0 None (Start 0 0)) ∷ []

@@ -1,5 +1,6 @@
--- The worked row in which a node is used again: the parts of a legal record, and the order of a serial one. What the process says is
--- a premise; that blocks have one owner and that messages arrive in order are laws of every cube, so they are premises too.
+-- The worked row in which a node is used again: the parts of a legal record, and the order of a
+-- serial one. What the process says is a premise; that blocks have one owner and that messages
+-- arrive in order are laws of every cube, so they are premises too.
 use Rattle.std.proofs.Common.{◌≡◌, Option, if◌then◌else◌, ℕ, ◌==◌, List, [], ◌∷◌, ◌++◌, map, fold, Some, None, option_and_then, true, refl, ap, ◌∙◌}
 use Rattle.rv_model.specs.Image.{ImageParts}
 use Rattle.ce_model.specs.declared.topology.TheConstants.{HOST}
@@ -7,11 +8,11 @@ use Rattle.ce_model.specs.declared.entry.Entry.{Entry}
 use Rattle.ce_model.specs.declared.entry.What.TheVariants.{Arm, Spawn, Take}
 use Rattle.ce_model.specs.declared.entry.TakeResult.TheVariants.{Start, Idle}
 use Rattle.ce_model.specs.Limits.{process_count, home_blocks, host_home, greatest_dim}
-use Rattle.ce_model.specs.Subcubes.{extract, deposit, relative_number, subcubes, first_free}
+use Rattle.ce_model.specs.Subcubes.{extract, deposit, relative_number, subcubes, first_free_subcube}
 use Rattle.ce_model.specs.Answers.{answer, is_quiet}
 use Rattle.ce_model.specs.Trace.{sent_items, taken_results, waiting_items, spawned_ids, killed_ids, mark, allowed_dispatches, made_dispatches, parcels}
 use Rattle.ce_model.specs.Views.{view}
-use Rattle.ce_model.specs.Cube.{Cube, opening, state, hoststore, HostCall, Solo, next_solo, whole_trace, continued_solo, solo, next_entry, start_image, allow, look_round, IsAlone}
+use Rattle.ce_model.specs.Cube.{Cube, opening, state, hoststore, Wish, Solo, next_solo, whole_trace, continued_solo, solo, next_entry, spawn_wish, arm_wish, look_wish, IsAlone}
 use Rattle.ce_model.specs.Owners.{IsOwned}
 use Rattle.ce_model.specs.Order.{IsInOrder}
 use Rattle.ce_model.specs.Machine.{IsLawful, after}
@@ -32,11 +33,11 @@ use Rattle.ce_script.proofs.UsedAgainDone.{HasSaidRow, alice_doings, bob_doings,
 
 -- a getcube that was granted where none was held, since the one subcube is free
 pub alice_refused : (image : ImageParts) → AreRefusedExactly (machine_of (the_script image)) alice_doings
-unfolding moments holding after first_free subcubes extract deposit greatest_dim
+unfolding moments holding after first_free_subcube subcubes extract deposit greatest_dim
 alice_refused image = (record { held = (λ h. absurd (cc), λ h. absurd (cc)); none = (λ h. absurd (cc), λ h. absurd (cc)) }, (tt, (tt, (tt, (tt, tt)))))
 
 pub bob_refused : (image : ImageParts) → AreRefusedExactly (machine_of (the_script image)) bob_doings
-unfolding moments holding after first_free subcubes extract deposit greatest_dim
+unfolding moments holding after first_free_subcube subcubes extract deposit greatest_dim
 bob_refused image = (record { held = (λ h. absurd (cc), λ h. absurd (cc)); none = (λ h. absurd (cc), λ h. absurd (cc)) }, (tt, (tt, tt)))
 
 -- ---- the cubes alone
@@ -52,8 +53,8 @@ unfolding solo continued_solo next_entry hoststore answer waiting_items sent_ite
 alice_alone image = refl
 
 -- bob's cube in the middle of its run
-abbrev now_at : List Entry → List HostCall → Solo
-now_at trace asked = record { trace = trace; calls_left = asked }
+abbrev now_at : List Entry → List Wish → Solo
+now_at trace asked = record { trace = trace; wishes_left = asked }
 
 abbrev spawned_entry : Entry
 spawned_entry = entry_of 1 HOST (Spawn 0 0 (place 0 0) true)
@@ -71,18 +72,18 @@ abbrev bob_acts : ImageParts → Solo → ℕ → Option Solo
 bob_acts image now actor = next_solo (bob_cube image) (opening (bob_cube image)) now actor
 
 abbrev spawned_now : Solo
-spawned_now = now_at (spawned_entry ∷ []) (allow 10 ∷ look_round ∷ [])
+spawned_now = now_at (spawned_entry ∷ []) (arm_wish 10 ∷ look_wish ∷ [])
 
 abbrev armed_now : Solo
-armed_now = now_at (spawned_entry ∷ armed_entry ∷ []) (look_round ∷ [])
+armed_now = now_at (spawned_entry ∷ armed_entry ∷ []) (look_wish ∷ [])
 
 abbrev started_now : Solo
-started_now = now_at (spawned_entry ∷ armed_entry ∷ started_entry ∷ []) (look_round ∷ [])
+started_now = now_at (spawned_entry ∷ armed_entry ∷ started_entry ∷ []) (look_wish ∷ [])
 
 abbrev rested_now : Solo
-rested_now = now_at (spawned_entry ∷ armed_entry ∷ started_entry ∷ rested_entry ∷ []) (look_round ∷ [])
+rested_now = now_at (spawned_entry ∷ armed_entry ∷ started_entry ∷ rested_entry ∷ []) (look_wish ∷ [])
 
-spawns : (image : ImageParts) → bob_acts image (now_at [] (start_image 0 (place 0 0) ∷ allow 10 ∷ look_round ∷ [])) HOST ≡ Some spawned_now
+spawns : (image : ImageParts) → bob_acts image (now_at [] (spawn_wish 0 (place 0 0) ∷ arm_wish 10 ∷ look_wish ∷ [])) HOST ≡ Some spawned_now
 unfolding next_entry hoststore answer waiting_items sent_items taken_results spawned_ids killed_ids mark allowed_dispatches made_dispatches parcels process_count home_blocks host_home
 spawns image = refl
 
@@ -106,7 +107,7 @@ bob_alone : (image : ImageParts) → HasSaidRow image → IsAlone (bob_cube imag
 unfolding solo continued_solo
 bob_alone image h =
     let cube = bob_cube image in
-    let go : Option Solo → List ℕ → Option (List Entry) = λ now schedule. option_and_then (λ (end : Solo). whole_trace end.trace end.calls_left) (fold (λ now' actor. option_and_then (λ solo. next_solo cube (opening cube) solo actor) now') now schedule) in
+    let go : Option Solo → List ℕ → Option (List Entry) = λ now schedule. option_and_then (λ (end : Solo). whole_trace end.trace end.wishes_left) (fold (λ now' actor. option_and_then (λ solo. next_solo cube (opening cube) solo actor) now') now schedule) in
     ap (λ now. go now (HOST ∷ 0 ∷ 0 ∷ HOST ∷ [])) (spawns image)
     ∙ ap (λ now. go now (0 ∷ 0 ∷ HOST ∷ [])) (arms image)
     ∙ ap (λ now. go now (0 ∷ HOST ∷ [])) (starts image h)
@@ -158,7 +159,7 @@ answered_with answer = doing_in the_record.history (Getcube 0) answer 0 1
 
 -- it can't be answered that no subcube is free, nor that alice holds a cube
 pub none_is_not_allowed : (image : ImageParts) → IsRefusedExactly (machine_of (the_script image)) None 0 (answered_with answers.None) → ⊥
-unfolding moments after first_free subcubes extract deposit greatest_dim
+unfolding moments after first_free_subcube subcubes extract deposit greatest_dim
 none_is_not_allowed image h = let found = (h.none.0 refl).1 in absurd (cc)
 
 pub held_is_not_allowed : (image : ImageParts) → IsRefusedExactly (machine_of (the_script image)) None 0 (answered_with answers.Held) → ⊥

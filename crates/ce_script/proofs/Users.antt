@@ -5,7 +5,7 @@ use Rattle.std.proofs.lemmas.List.Elements.{filter-append}
 use Rattle.std.specs.Prelude.{bytes_eq, filter}
 use Rattle.ce_script.specs.Sayings.{without_repeats}
 use Rattle.ce_script.specs.Faults.{is_one_name_of}
-use Rattle.ce_script.specs.Reading.{with_name}
+use Rattle.ce_script.specs.Reading.{with_user_name}
 use Rattle.ce_script.proofs.Members.{among_distinct, filter_keeps}
 
 -- ---- what is among distinct names is among all
@@ -54,7 +54,7 @@ flipped one other =
 
 with_by : (one name : List ℕ) (known : List (List ℕ)) (here among : Bool) → bytes_eq name one ≡ here → is_one_name_of known name ≡ among
     → one ∷ filter (λ other. not (bytes_eq one other)) (cond among known (known ++ name ∷ []))
-    ≡ with_name (one ∷ filter (λ other. not (bytes_eq one other)) known) name
+    ≡ with_user_name (one ∷ filter (λ other. not (bytes_eq one other)) known) name
 with_by one name known true true e f =
     let test : List ℕ → Bool = λ other. not (bytes_eq one other) in
     sym (ap (λ here. cond (here || is_one_name_of (filter test known) name) (one ∷ filter test known) (one ∷ (filter test known ++ name ∷ []))) e)
@@ -77,7 +77,7 @@ with_by one name known false false e f =
     ∙ ap (λ here. cond here (one ∷ filter test known) (one ∷ (filter test known ++ name ∷ []))) missing)
 
 -- the distinct names of names with one more
-pub distinct_behind_one : (names : List (List ℕ)) (name : List ℕ) → without_repeats (names ++ name ∷ []) ≡ with_name (without_repeats names) name
+pub distinct_behind_one : (names : List (List ℕ)) (name : List ℕ) → without_repeats (names ++ name ∷ []) ≡ with_user_name (without_repeats names) name
 distinct_behind_one [] name = refl
 distinct_behind_one (one ∷ names) name =
     ap (λ rest. one ∷ filter (λ other. not (bytes_eq one other)) rest) (distinct_behind_one names name)

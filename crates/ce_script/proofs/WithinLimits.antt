@@ -7,8 +7,8 @@ use Rattle.std.specs.Prelude.{IfSome, find, is_none, unwrap_or, option_map, opti
 use Rattle.std.specs.Option.{option_map_or}
 use Rattle.std.specs.Str.Parse.{digits_value}
 use Rattle.std.specs.List.{AllByRecursion, list_any, last_or}
-use Rattle.ce_script.specs.declared.spelling.TheConstants.{NUMBER_DIGITS}
-use Rattle.ce_model.specs.Limits.{greatest_dim, greatest_count, greatest_users, greatest_images, block_room}
+use Rattle.ce_script.specs.declared.spelling.TheConstants.{NUMBER_DIGITS, DATA_DIGITS}
+use Rattle.ce_model.specs.Limits.{greatest_dim, greatest_count, greatest_users, greatest_images, block_room, block_room_lem}
 use Rattle.ce_host.specs.declared.command.Command.{Command}
 use Rattle.ce_script.specs.declared.grammar.Verb.{Verb}
 use Rattle.ce_script.specs.declared.grammar.Verb.TheVariants.{Machine, Image, User, Getcube, Peek, Freecube, Spawn, Kill, Send, Run, Recv, Dump, Trace}
@@ -20,10 +20,10 @@ use Rattle.ce_text.specs.Number.{are_digits, number_of_digits}
 use Rattle.ce_script.specs.Spellings.{are_byte_digits, digit_bytes, greatest_number, bounded_number, written_bytes, data_in}
 use Rattle.ce_script.specs.Verbs.{verb_of, is_machine, is_image, is_user, is_command, Number, OldImage}
 use Rattle.ce_script.specs.Statements.{ScriptStatement, operand, has_verb_kind, statements}
-use Rattle.ce_script.specs.Sayings.{of_kind, stated_names, name_number, operand_number, stated_image, without_repeats, dimension, images, image_names, users, command_of_verb, command_of_statement, last_user, numbered_command, commands}
-use Rattle.ce_script.specs.Faults.{is_one_name_of, operand_fault, statement_fault, first_fault}
+use Rattle.ce_script.specs.Sayings.{statements_of_kind, stated_names, name_number, operand_number, stated_image, without_repeats, dimension, images, image_names, users, command_of_verb, command_of_statement, last_user, numbered_command, commands}
+use Rattle.ce_script.specs.Faults.{is_one_name_of, operand_fault, statement_fault, first_script_fault}
 use Rattle.ce_script.specs.Scripts.{IsScript}
-use Rattle.ce_script.specs.Bounds.{AreNames, IsCommandWithin, IsOwnCommandWithin, IsWithinLimits}
+use Rattle.ce_script.specs.Bounds.{AreNames, IsCommandWithin, IsUserCommandWithin, IsWithinLimits}
 use Rattle.ce_script.proofs.Spots.{or_none, each_mapped_none, refused_none, each_of, each_both, each_made, each_whole, last_spot}
 use Rattle.ce_script.proofs.Judged.{IsRight, each_right, operands_right, the_verb, machine_alone, names_append}
 use Rattle.ce_script.proofs.NamesSaid.{user_names_are, image_names_are}
@@ -73,7 +73,7 @@ below n most e = grind (arith, nat_tests)
 data_within : (word : List ℕ) → length (unwrap_or (data_in word) []) ≤ block_room
 unfolding data_in written_bytes
 data_within word =
-    data_by (bytes_eq word (codes "-")) (nat_le (length word) (2 * block_room)) (are_byte_digits word) word block_room (below (length word) (2 * block_room))
+    data_by (bytes_eq word (codes "-")) (nat_le (length word) DATA_DIGITS) (are_byte_digits word) word block_room (λ short. omega (arith, block_room_lem, below (length word) DATA_DIGITS short))
 
 -- ---- commands
 
@@ -83,7 +83,8 @@ some one other e = cc
 none : {A : Type 0} (one : A) → None ≡ Some one → ⊥
 none one e = cc
 
--- the command of a statement keeps the limits, where these images stand before it and these more behind
+-- the command of a statement keeps the limits, where these images stand before it and these more
+-- behind
 command_within : (spot : Spot ScriptStatement) (verb : Verb) (more : List (List ℕ)) (command : Command) → IsRight spot → verb_of (words spot.here.line) ≡ Some verb
     → command_of_verb verb (image_names spot.before ++ more) spot.here ≡ Some command → IsCommandWithin (length (image_names spot.before ++ more)) command
 command_within spot Machine more command is v e = absurd (none command e)
@@ -112,16 +113,16 @@ command_within spot Trace more command is v e = subst (IsCommandWithin (length (
 -- ---- users
 
 there_is : (kind : Verb → Bool) (all : List ScriptStatement) → list_any (has_verb_kind kind) all ≡ true
-    → (one : ScriptStatement) × (others : List ScriptStatement) × (of_kind kind all ≡ one ∷ others)
+    → (one : ScriptStatement) × (others : List ScriptStatement) × (statements_of_kind kind all ≡ one ∷ others)
 there_is kind [] e = absurd cc
 there_is kind (one ∷ others) e =
-    elim (has_verb_kind kind one) as (λ b. b || list_any (has_verb_kind kind) others ≡ true → (first : ScriptStatement) × (rest : List ScriptStatement) × (cond b (one ∷ of_kind kind others) (of_kind kind others) ≡ first ∷ rest)) [
-      | true ↦ λ _. (one, of_kind kind others, refl)
+    elim (has_verb_kind kind one) as (λ b. b || list_any (has_verb_kind kind) others ≡ true → (first : ScriptStatement) × (rest : List ScriptStatement) × (cond b (one ∷ statements_of_kind kind others) (statements_of_kind kind others) ≡ first ∷ rest)) [
+      | true ↦ λ _. (one, statements_of_kind kind others, refl)
       | false ↦ λ later. there_is kind others later
     ] e
 
 -- the last user is among the users, where there is one
-pub last_user_among : (before : List ScriptStatement) → list_any (has_verb_kind is_user) before ≡ true → is_one_name_of (stated_names (of_kind is_user before)) (last_user before) ≡ true
+pub last_user_among : (before : List ScriptStatement) → list_any (has_verb_kind is_user) before ≡ true → is_one_name_of (stated_names (statements_of_kind is_user before)) (last_user before) ≡ true
 last_user_among before e =
     let found = there_is is_user before e in
     let P : List ScriptStatement → Type 0 = λ those. is_one_name_of (stated_names those) (unwrap_or (last_or None (stated_names those)) []) ≡ true in
@@ -143,13 +144,13 @@ user_within : (spot : Spot ScriptStatement) (verb : Verb) → IsRight spot → v
     → name_number (last_user spot.before) (users (spot.before ++ spot.here ∷ spot.behind)) < length (users (spot.before ++ spot.here ∷ spot.behind))
 unfolding users
 user_within spot verb is v says =
-    let more = stated_names (of_kind is_user (spot.here ∷ spot.behind)) in
+    let more = stated_names (statements_of_kind is_user (spot.here ∷ spot.behind)) in
     let said = ap (λ found. option_map_or is_command found false) v ∙ says in
     let there = last_user_among spot.before (both_false (has_verb_kind is_command spot.here) (list_any (has_verb_kind is_user) spot.before) is.user said) in
-    let among = among_front (stated_names (of_kind is_user spot.before)) more (last_user spot.before) there in
+    let among = among_front (stated_names (statements_of_kind is_user spot.before)) more (last_user spot.before) there in
     let P : List (List ℕ) → Type 0 = λ names. name_number (last_user spot.before) (without_repeats names) < length (without_repeats names) in
     subst P (sym (names_append is_user spot.before (spot.here ∷ spot.behind)))
-    (number_below (without_repeats (stated_names (of_kind is_user spot.before) ++ more)) (last_user spot.before) (among_distinct (stated_names (of_kind is_user spot.before) ++ more) (last_user spot.before) among))
+    (number_below (without_repeats (stated_names (statements_of_kind is_user spot.before) ++ more)) (last_user spot.before) (among_distinct (stated_names (statements_of_kind is_user spot.before) ++ more) (last_user spot.before) among))
 
 pub images_append : (before more : List ScriptStatement) → image_names (before ++ more) ≡ image_names before ++ image_names more
 unfolding image_names
@@ -165,7 +166,7 @@ chained f (Some one) made e = (one, refl, e)
 
 -- a command among all statements is one of the users', and keeps the limits
 own_within : (spot : Spot ScriptStatement) → IsRight spot → (own : ℕ × Command) → numbered_command (spot.before ++ spot.here ∷ spot.behind) spot ≡ Some own
-    → IsOwnCommandWithin (length (users (spot.before ++ spot.here ∷ spot.behind))) (length (image_names (spot.before ++ spot.here ∷ spot.behind))) own
+    → IsUserCommandWithin (length (users (spot.before ++ spot.here ∷ spot.behind))) (length (image_names (spot.before ++ spot.here ∷ spot.behind))) own
 unfolding command_of_statement
 own_within spot is own e =
     let all = spot.before ++ spot.here ∷ spot.behind in
@@ -174,19 +175,19 @@ own_within spot is own e =
     let P : List (List ℕ) → Type 0 = λ images. command_of_verb found.0 images spot.here ≡ Some made.0 → IsCommandWithin (length images) made.0 in
     let within = subst P (sym (images_append spot.before (spot.here ∷ spot.behind)))
     (command_within spot found.0 (image_names (spot.here ∷ spot.behind)) made.0 is found.1) found.2 in
-    subst (IsOwnCommandWithin (length (users all)) (length (image_names all))) made.2
+    subst (IsUserCommandWithin (length (users all)) (length (image_names all))) made.2
     (user_within spot found.0 is found.1 (is_said found.0 (image_names all) spot.here made.0 found.2), within)
 
-each_own_within : (all : List ScriptStatement) → AllByRecursion IsRight (spots all) → AllByRecursion (IsOwnCommandWithin (length (users all)) (length (image_names all))) (commands all)
+each_own_within : (all : List ScriptStatement) → AllByRecursion IsRight (spots all) → AllByRecursion (IsUserCommandWithin (length (users all)) (length (image_names all))) (commands all)
 unfolding commands
 each_own_within all each =
     let IsWhole : Spot ScriptStatement → Type 0 = λ spot. spot.before ++ spot.here ∷ spot.behind ≡ all in
-    let IsWithin : ℕ × Command → Type 0 = IsOwnCommandWithin (length (users all)) (length (image_names all)) in
+    let IsWithin : ℕ × Command → Type 0 = IsUserCommandWithin (length (users all)) (length (image_names all)) in
     let IsKnown : Spot ScriptStatement → Type 0 = λ spot. IsRight spot × IsWhole spot in
     let IsMadeWithin : Spot ScriptStatement → Type 0 = λ spot. (own : ℕ × Command) → numbered_command all spot ≡ Some own → IsWithin own in
     each_made (numbered_command all) IsWithin (spots all)
     (each_of IsKnown IsMadeWithin (spots all)
-    (λ spot known own e. subst (λ (every : List ScriptStatement). numbered_command every spot ≡ Some own → IsOwnCommandWithin (length (users every)) (length (image_names every)) own) known.1 (own_within spot known.0 own) e)
+    (λ spot known own e. subst (λ (every : List ScriptStatement). numbered_command every spot ≡ Some own → IsUserCommandWithin (length (users every)) (length (image_names every)) own) known.1 (own_within spot known.0 own) e)
     (each_both IsRight IsWhole (spots all) each (each_whole [] all)))
 
 -- ---- how many users and images
@@ -250,14 +251,14 @@ named_alike (one ∷ others) = ap (λ names. operand 1 one ∷ names) (named_ali
 
 same_count : (all : List ScriptStatement) → length (images all) ≡ length (image_names all)
 unfolding images image_names
-same_count all = length-map (of_kind is_image all) _ ∙ sym (length-map (of_kind is_image all) (operand 1))
+same_count all = length-map (statements_of_kind is_image all) _ ∙ sym (length-map (statements_of_kind is_image all) (operand 1))
 
 same_names : (all : List ScriptStatement) → map (λ (named : NamedImage). named.name) (images all) ≡ image_names all
 unfolding images image_names
-same_names all = named_alike (of_kind is_image all)
+same_names all = named_alike (statements_of_kind is_image all)
 
-all_right : (text : List ℕ) → first_fault text ≡ None → AllByRecursion IsRight (spots (statements text))
-unfolding first_fault
+all_right : (text : List ℕ) → first_script_fault text ≡ None → AllByRecursion IsRight (spots (statements text))
+unfolding first_script_fault
 all_right text e = each_right (statements text) (each_mapped_none statement_fault (spots (statements text)) e)
 
 -- a text that is a script keeps the limits
@@ -267,7 +268,7 @@ within_limits text script is =
     let each = all_right text is.no_fault in
     let counts = few all each in
     let image_count : length script.images ≡ length (image_names all) = ap length is.images ∙ same_count all in
-    let AreWithin : ℕ → ℕ → List (ℕ × Command) → Type 0 = λ users images said. AllByRecursion (IsOwnCommandWithin users images) said in
+    let AreWithin : ℕ → ℕ → List (ℕ × Command) → Type 0 = λ users images said. AllByRecursion (IsUserCommandWithin users images) said in
     record {
       dim = subst (λ (dim : Option ℕ). IfSome dim (λ d. d ≤ greatest_dim)) (sym is.dim) (dim_within all each);
       users = subst (λ (users : List (List ℕ)). length users ≤ greatest_users) (sym is.users) counts.0;

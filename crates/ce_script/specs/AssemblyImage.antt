@@ -1,4 +1,5 @@
--- The image that an assembly text describes: the one place that knows how the assembler's definitions say it.
+-- The image that an assembly text describes: the one place that knows how the assembler's
+-- definitions say it.
 use Rattle.std.specs.Prelude.{ℕ, List, [], ◌∷◌, ◌++◌, Result, Ok, Err}
 use Rattle.std.specs.Int.{w32, to_le_bytes}
 use Rattle.rv_model.specs.Image.{ImageParts, image_parts}

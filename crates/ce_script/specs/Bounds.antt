@@ -17,8 +17,9 @@ IsCommandWithin images (Recv count) = count ≤ greatest_count
 IsCommandWithin images other = Unit {0}
 
 -- the command is one of these users', and keeps the limits
-abbrev pub IsOwnCommandWithin : ℕ → ℕ → ℕ × Command → Type 0
-IsOwnCommandWithin users images own = (own.0 < users) × IsCommandWithin images own.1
+abbrev pub IsUserCommandWithin : ℕ → ℕ → ℕ × Command → Type 0
+IsUserCommandWithin users images user_command =
+    (user_command.0 < users) × IsCommandWithin images user_command.1
 
 -- names, all different
 pub record AreNames (names : List (List ℕ)) : Type 0 where
@@ -29,14 +30,15 @@ pub record AreNames (names : List (List ℕ)) : Type 0 where
 abbrev pub IsSilent : Script → Type 0
 IsSilent script = (script.images ≡ []) × (script.users ≡ []) × (script.commands ≡ [])
 
--- The script's dimension is a machine's; its users are as many as a machine can have, and so are its images, each with a name of its own;
--- its commands keep the limits; and without a machine it says nothing.
+-- The script's dimension is a machine's; its users are as many as a machine can have, and so are
+-- its images, each with a name of its own; its commands keep the limits; and without a machine it
+-- says nothing.
 pub record IsWithinLimits (script : Script) : Type 0 where
   pub dim : IfSome script.dim (λ dim. dim ≤ greatest_dim)
   pub users : length script.users ≤ greatest_users
   pub user_names : AreNames script.users
   pub images : length script.images ≤ greatest_images
-  pub image_names : AreNames (map (λ named. named.name) script.images)
-  pub commands : AllByRecursion (IsOwnCommandWithin (length script.users) (length script.images))
+  pub image_names : AreNames (map (λ named_image. named_image.name) script.images)
+  pub commands : AllByRecursion (IsUserCommandWithin (length script.users) (length script.images))
       script.commands
   pub machine : script.dim ≡ None → IsSilent script

@@ -27,12 +27,14 @@ abbrev pub command_words : Script → Command → List (List ℕ)
 command_words script (Getcube dim) = verb_word verb.Getcube ∷ decimal dim ∷ []
 command_words script Peek = verb_word verb.Peek ∷ []
 command_words script Freecube = verb_word verb.Freecube ∷ []
-command_words script (Spawn image to) = verb_word verb.Spawn ∷ image_name script image ∷ place_words to
+command_words script (Spawn image to) =
+    verb_word verb.Spawn ∷ image_name script image ∷ place_words to
 command_words script (Kill to) = verb_word verb.Kill ∷ place_words to
-command_words script (Send to bytes) = verb_word verb.Send ∷ (place_words to ++ bytes_text bytes ∷ [])
+command_words script (Send to bytes) =
+    verb_word verb.Send ∷ (place_words to ++ bytes_text bytes ∷ [])
 command_words script (Run count) = verb_word verb.Run ∷ decimal count ∷ []
 command_words script (Recv count) = verb_word verb.Recv ∷ decimal count ∷ []
-command_words script (Dump at) = verb_word verb.Dump ∷ place_words at
+command_words script (Dump place) = verb_word verb.Dump ∷ place_words place
 command_words script Trace = verb_word verb.Trace ∷ []
 
 -- ---- replies
@@ -66,18 +68,20 @@ status_words (Stopped cause) = codes "stopped" ∷ stop_words cause
 abbrev pub grant_text : Record → Grant → List ℕ
 grant_text run_record grant =
     codes ", "
-    ++ joined_words (user_name run_record grant.user ∷ codes "dim" ∷ decimal grant.dim ∷ subcube_words grant.sub)
+    ++ joined_words
+    (user_name run_record grant.user ∷ codes "dim" ∷ decimal grant.dim ∷ subcube_words grant.sub)
 
 abbrev pub peeked_text : Record → PeekResult → List ℕ
-peeked_text run_record found =
-    joined_words (codes "free" ∷ decimal found.free ∷ []) ++ flat_map (grant_text run_record) found.grants
+peeked_text run_record peek_result =
+    joined_words (codes "free" ∷ decimal peek_result.free ∷ [])
+    ++ flat_map (grant_text run_record) peek_result.grants
 
 abbrev pub reply_text : Record → Answer → List ℕ
 reply_text run_record answers.NoCube = codes "no cube"
 reply_text run_record answers.Held = codes "held"
 reply_text run_record answers.None = codes "none"
 reply_text run_record (answers.Granted sub) = joined_words (codes "granted" ∷ subcube_words sub)
-reply_text run_record (answers.Peeked found) = peeked_text run_record found
+reply_text run_record (answers.Peeked peek_result) = peeked_text run_record peek_result
 reply_text run_record answers.Freed = codes "freed"
 reply_text run_record answers.Ok = codes "ok"
 reply_text run_record answers.NoPlace = codes "no place"

@@ -9,15 +9,15 @@ use Rattle.ce_model.specs.declared.entry.Entry.{Entry}
 use Rattle.ce_model.specs.declared.entry.What.TheVariants as whats
 use Rattle.ce_model.specs.declared.entry.LookResult.{LookResult}
 use Rattle.ce_model.specs.declared.entry.LookResult.TheVariants as look_result
-use Rattle.ce_model.specs.declared.entry.KillFound.{KillFound}
-use Rattle.ce_model.specs.declared.entry.KillFound.TheVariants as kill_found
+use Rattle.ce_model.specs.declared.entry.KillResult.{KillResult}
+use Rattle.ce_model.specs.declared.entry.KillResult.TheVariants as kill_result
 use Rattle.ce_model.specs.Parcels.{Parcel, Item}
 use Rattle.ce_model.specs.Node.{is_place, process_at}
 use Rattle.ce_model.specs.Renaming.{entry_inward}
 use Rattle.ce_model.specs.Trace.{sent_items}
 use Rattle.ce_model.specs.Cube.{Cube, CubeState, opening, hoststore, parcel_numbered, rest}
 use Rattle.ce_model.specs.Machine.{MachineParts, after, cube_of}
-use Rattle.ce_model.specs.Literals.{of_host}
+use Rattle.ce_model.specs.Literals.{host_entry}
 use Rattle.ce_daemon.specs.Peeks.{peek_result}
 use Rattle.ce_host.specs.declared.command.Command.{Command}
 use Rattle.ce_host.specs.declared.command.Command.TheVariants.{Getcube, Peek, Freecube, Spawn, Kill, Send, Run, Recv, Dump, Trace}
@@ -27,8 +27,8 @@ use Rattle.ce_script.specs.Rounds.{RoundKind, joined_lists, IsRoundWithWork, IsR
 use Rattle.ce_script.specs.Moments.{Moment, moment_entries, Holding}
 
 -- a command makes no entry, and is answered so
-abbrev pub IsAtOnce : Answer → Answer → List Entry → Type 0
-IsAtOnce reply answer segment = (answer ≡ reply) × (segment ≡ [])
+abbrev pub IsReplyAtOnce : Answer → Answer → List Entry → Type 0
+IsReplyAtOnce reply answer segment = (answer ≡ reply) × (segment ≡ [])
 
 -- ---- without a cube
 
@@ -40,15 +40,15 @@ getcube_reply (Some sub) = answers.Granted sub
 -- `getcube`: the cube that its entry grants, or none; where one is held already it makes no entry
 abbrev pub IsGetcube : ℕ → Option Holding → ℕ → Answer → List Entry → Type 0
 IsGetcube user None dim answer entries =
-    (sub : Option Subcube) × (entries ≡ of_host user (whats.Getcube dim sub) ∷ [])
+    (sub : Option Subcube) × (entries ≡ host_entry user (whats.Getcube dim sub) ∷ [])
     × (answer ≡ getcube_reply sub)
-IsGetcube user (Some held) dim answer entries = IsAtOnce answers.Held answer entries
+IsGetcube user (Some user_holding) dim answer entries = IsReplyAtOnce answers.Held answer entries
 
 -- `peek`
 abbrev pub IsPeek : MachineParts → ℕ → Answer → List Moment → Type 0
 IsPeek machine user answer moments =
     (before : List Entry)
-    × (moments ≡ record { before = before; entry = of_host user whats.Peek } ∷ [])
+    × (moments ≡ record { before = before; entry = host_entry user whats.Peek } ∷ [])
     × (answer ≡ answers.Peeked (peek_result machine (after before)))
 
 -- ---- at a place
@@ -56,30 +56,30 @@ IsPeek machine user answer moments =
 -- at what is no place of the cube a command makes no entry, and at a place this holds of it
 abbrev pub IsAtPlace : Bool → Answer → List Entry → Type 0 → Type 0
 IsAtPlace true answer segment P = P
-IsAtPlace false answer segment P = IsAtOnce answers.NoPlace answer segment
+IsAtPlace false answer segment P = IsReplyAtOnce answers.NoPlace answer segment
 
 -- `spawn`, by whether the id was fresh
 abbrev pub IsSpawn : ℕ → ℕ → Place → Answer → List Entry → Type 0
 IsSpawn user image to answer segment =
-    (fresh : Bool) × (segment ≡ of_host user (whats.Spawn 0 image to fresh) ∷ [])
+    (fresh : Bool) × (segment ≡ host_entry user (whats.Spawn 0 image to fresh) ∷ [])
     × (answer ≡ (if fresh then answers.Ok else answers.Used))
 
 -- `kill`, by what it found
-abbrev pub kill_reply : KillFound → Answer
-kill_reply kill_found.Killed = answers.Ok
-kill_reply kill_found.Unused = answers.Unused
-kill_reply kill_found.Already = answers.Already
+abbrev pub kill_reply : KillResult → Answer
+kill_reply kill_result.Killed = answers.Ok
+kill_reply kill_result.Unused = answers.Unused
+kill_reply kill_result.Already = answers.Already
 
 abbrev pub IsKill : ℕ → Place → Answer → List Entry → Type 0
 IsKill user to answer segment =
-    (found : KillFound) × (segment ≡ of_host user (whats.Kill 0 to found) ∷ [])
+    (found : KillResult) × (segment ≡ host_entry user (whats.Kill 0 to found) ∷ [])
     × (answer ≡ kill_reply found)
 
 -- `send`, by the blocks in the host's store before it
 abbrev pub IsSend : ℕ → List BlockId → Place → List ℕ → Answer → List Entry → Type 0
-IsSend user [] to bytes answer segment = IsAtOnce answers.NoStore answer segment
+IsSend user [] to bytes answer segment = IsReplyAtOnce answers.NoStore answer segment
 IsSend user (id ∷ others) to bytes answer segment =
-    (first : ℕ) × (segment ≡ of_host user (whats.Send 0 first ((to, id) ∷ []) bytes) ∷ [])
+    (first : ℕ) × (segment ≡ host_entry user (whats.Send 0 first ((to, id) ∷ []) bytes) ∷ [])
     × (answer ≡ answers.Ok)
 
 -- ---- with rounds
@@ -99,8 +99,8 @@ pub record IsRun (kind : RoundKind) (cube : Cube) (count : ℕ) (answer : Answer
   pub with_work : AllByRecursion (IsRoundWithWork kind cube.dim) rounds
   pub without_work : IsRoundWithoutWork kind cube.dim last
   pub entries : segment
-      ≡ of_host cube.user (whats.Arm count)
-      ∷ (joined_lists rounds ++ (last ++ of_host cube.user (whats.Look found) ∷ []))
+      ≡ host_entry cube.user (whats.Arm count)
+      ∷ (joined_lists rounds ++ (last ++ host_entry cube.user (whats.Look found) ∷ []))
   pub reply : run_reply found ≡ Some answer
 
 -- how `recv` ends
@@ -114,7 +114,7 @@ pub data RecvEnd : Type 0 where
 
 -- the host looks for a message: the one of this number is there, or none
 abbrev pub host_take : ℕ → Option ℕ → Entry
-host_take user number = of_host user (whats.HostTake number)
+host_take user number = host_entry user (whats.HostTake number)
 
 -- the entries of an end
 abbrev pub end_entries : ℕ → RecvEnd → List Entry
@@ -122,7 +122,7 @@ end_entries user (message_next number) = host_take user (Some number) ∷ []
 end_entries user (message_behind_rest round number) =
     host_take user None ∷ (round ++ host_take user (Some number) ∷ [])
 end_entries user (no_message round found) =
-    host_take user None ∷ (round ++ host_take user None ∷ of_host user (whats.Look found) ∷ [])
+    host_take user None ∷ (round ++ host_take user None ∷ host_entry user (whats.Look found) ∷ [])
 
 -- the rounds without work at an end: one, or none where a message comes before one
 abbrev pub end_rounds : RecvEnd → List (List Entry)
@@ -132,7 +132,8 @@ end_rounds (no_message round found) = round ∷ []
 
 -- what `recv` is answered with a message, and without one by what its look found
 abbrev pub message_reply : Option Parcel → Option Answer
-message_reply parcel = option_map (λ found. answers.Message found.from found.block.bytes) parcel
+message_reply parcel =
+    option_map (λ message. answers.Message message.from message.block.bytes) parcel
 
 abbrev pub no_message_reply : LookResult → Option Answer
 no_message_reply look_result.Quiet = Some answers.None
@@ -145,7 +146,8 @@ recv_reply items (message_next number) = message_reply (parcel_numbered number i
 recv_reply items (message_behind_rest round number) = message_reply (parcel_numbered number items)
 recv_reply items (no_message round found) = no_message_reply found
 
--- `recv`: dispatches are allowed, then the host looks for a message, with a round between each two looks
+-- `recv`: dispatches are allowed, then the host looks for a message, with a round between each two
+-- looks
 pub record IsRecv (kind : RoundKind) (cube : Cube) (items : List Item) (count : ℕ) (answer : Answer)
     (segment : List Entry) : Type 0 where
   pub rounds : List (List Entry)
@@ -153,14 +155,14 @@ pub record IsRecv (kind : RoundKind) (cube : Cube) (items : List Item) (count : 
   pub with_work : AllByRecursion (IsRoundWithWork kind cube.dim) rounds
   pub without_work : AllByRecursion (IsRoundWithoutWork kind cube.dim) (end_rounds end)
   pub entries : segment
-      ≡ of_host cube.user (whats.Arm count)
+      ≡ host_entry cube.user (whats.Arm count)
       ∷ (flat_map (λ round. host_take cube.user None ∷ round) rounds ++ end_entries cube.user end)
   pub reply : recv_reply items end ≡ Some answer
 
 -- ---- all commands
 
--- a command in a cube, by the trace before it, but for those that ask for a cube, peek or give it back; the entries have the
--- cube's numbers for its nodes
+-- a command in a cube, by the trace before it, but for those that ask for a cube, peek or give it
+-- back; the entries have the cube's numbers for its nodes
 abbrev pub IsCubeCommand : RoundKind → Cube → CubeState → List Entry → Command → Answer → List Entry
     → Type 0
 IsCubeCommand kind cube o t (Spawn image to) answer segment =
@@ -175,36 +177,43 @@ IsCubeCommand kind cube o t (Run count) answer segment =
 IsCubeCommand kind cube o t (Recv count) answer segment =
     IsRecv kind cube (sent_items o.standing HOST (t ++ segment)) count answer segment
     × AreTurnsOver cube o (t ++ segment)
-IsCubeCommand kind cube o t (Dump at) answer segment =
-    IsAtPlace (is_place cube.dim at) answer segment
-    (IsAtOnce (answers.State (process_at (rest cube o at.node t) at.pid).status) answer segment)
-IsCubeCommand kind cube o t Trace answer segment = IsAtOnce (answers.Entries (length t)) answer segment
+IsCubeCommand kind cube o t (Dump place) answer segment =
+    IsAtPlace (is_place cube.dim place) answer segment
+    (IsReplyAtOnce
+    (answers.State (process_at (rest cube o place.node t) place.pid).status) answer segment)
+IsCubeCommand kind cube o t Trace answer segment =
+    IsReplyAtOnce (answers.Entries (length t)) answer segment
 IsCubeCommand kind cube o t other answer segment = ⊥
+
+-- the entries of a freecube: the cube is drained, and then given back
+abbrev pub freecube_entries : ℕ → List Entry
+freecube_entries user = host_entry user whats.Drain ∷ host_entry user whats.Freecube ∷ []
 
 -- `freecube`: what waits is taken away, and then the cube is given back
 abbrev pub IsFreecube : ℕ → Answer → List Entry → Type 0
 IsFreecube user answer entries =
-    (answer ≡ answers.Freed) × (entries ≡ of_host user whats.Drain ∷ of_host user whats.Freecube ∷ [])
+    (answer ≡ answers.Freed) × (entries ≡ freecube_entries user)
 
 -- a command of who holds this cube
 abbrev pub IsHolderCommand : RoundKind → Cube → Holding → Command → Answer → List Entry → Type 0
-IsHolderCommand kind cube held Freecube answer entries = IsFreecube cube.user answer entries
-IsHolderCommand kind cube held other answer entries =
-    IsCubeCommand kind cube (opening cube) held.trace other answer
-    (map (entry_inward held.grant.sub) entries)
+IsHolderCommand kind cube user_holding Freecube answer entries = IsFreecube cube.user answer entries
+IsHolderCommand kind cube user_holding other answer entries =
+    IsCubeCommand kind cube (opening cube) user_holding.trace other answer
+    (map (entry_inward user_holding.grant.sub) entries)
 
 -- a command that wants a cube
 abbrev pub IsWithCube : RoundKind → MachineParts → Option Holding → Command → Answer → List Entry
     → Type 0
-IsWithCube kind machine None command answer entries = IsAtOnce answers.NoCube answer entries
-IsWithCube kind machine (Some held) command answer entries =
-    IsHolderCommand kind (cube_of machine.images held.grant) held command answer entries
+IsWithCube kind machine None command answer entries = IsReplyAtOnce answers.NoCube answer entries
+IsWithCube kind machine (Some user_holding) command answer entries =
+    IsHolderCommand kind
+    (cube_of machine.images user_holding.grant) user_holding command answer entries
 
 -- a user's command, by the cube that it holds: what it is answered, and the moments of its entries
 abbrev pub IsCommand : RoundKind → MachineParts → ℕ → Option Holding → Command → Answer
     → List Moment → Type 0
-IsCommand kind machine user held (Getcube dim) answer moments =
-    IsGetcube user held dim answer (moment_entries moments)
-IsCommand kind machine user held Peek answer moments = IsPeek machine user answer moments
-IsCommand kind machine user held other answer moments =
-    IsWithCube kind machine held other answer (moment_entries moments)
+IsCommand kind machine user user_holding (Getcube dim) answer moments =
+    IsGetcube user user_holding dim answer (moment_entries moments)
+IsCommand kind machine user user_holding Peek answer moments = IsPeek machine user answer moments
+IsCommand kind machine user user_holding other answer moments =
+    IsWithCube kind machine user_holding other answer (moment_entries moments)

@@ -2,7 +2,7 @@
 use Rattle.std.specs.Prelude.{◌≡◌, ℕ, ◌↔◌, List, [], Option, None, is_some, IsTrue, IsSomeAnd, map, flat_map, slice_get}
 use Rattle.ce_model.specs.declared.entry.Entry.{Entry}
 use Rattle.ce_model.specs.Lists.{EachAfter}
-use Rattle.ce_model.specs.Subcubes.{first_free}
+use Rattle.ce_model.specs.Subcubes.{first_free_subcube}
 use Rattle.ce_model.specs.Machine.{MachineParts, after, is_free}
 use Rattle.ce_host.specs.declared.command.Command.{Command}
 use Rattle.ce_host.specs.declared.command.Command.TheVariants.{Getcube}
@@ -23,36 +23,40 @@ abbrev pub holding_behind : List Doing → Option Holding
 holding_behind doings = holding (flat_map (λ doing. moment_entries doing.moments) doings)
 
 -- a command has the entries and the reply that it must have behind those before it
-abbrev pub IsDone : RoundKind → MachineParts → ℕ → List Doing → Doing → Type 0
-IsDone kind machine user before doing =
-    IsCommand kind machine user (holding_behind before) doing.command doing.answer doing.moments
+abbrev pub IsRightDoing : RoundKind → MachineParts → ℕ → List Doing → Doing → Type 0
+IsRightDoing kind machine user earlier_doings doing =
+    IsCommand kind machine user
+    (holding_behind earlier_doings) doing.command doing.answer doing.moments
 
--- this is what a user did: its commands with their replies, whose entries are all of the user's, one command behind the other
+-- this is what a user did: its commands with their replies, whose entries are all of the user's,
+-- one command behind the other
 pub record AreDoings (kind : RoundKind) (machine : MachineParts) (history : List Entry) (user : ℕ)
-    (done : List (Command × Answer)) (doings : List Doing) : Type 0 where
-  pub replies : map (λ doing. (doing.command, doing.answer)) doings ≡ done
+    (answered_commands : List (Command × Answer)) (doings : List Doing) : Type 0 where
+  pub replies : map (λ doing. (doing.command, doing.answer)) doings ≡ answered_commands
   pub entries : flat_map (λ doing. doing.moments) doings ≡ user_moments user history
-  pub each : EachAfter (IsDone kind machine user) [] doings
+  pub each : EachAfter (IsRightDoing kind machine user) [] doings
 
 -- ---- refusals
 
--- a getcube is answered `held` exactly where its user holds a cube, and `none` exactly where it holds none and at the entry no
--- subcube of this dimension is free
-pub record IsRefusedExactly (machine : MachineParts) (holds : Option Holding) (dim : ℕ)
+-- a getcube is answered `held` exactly where its user holds a cube, and `none` exactly where it
+-- holds none and at the entry no subcube of this dimension is free
+pub record IsRefusedExactly (machine : MachineParts) (user_holding : Option Holding) (dim : ℕ)
     (doing : Doing) : Type 0 where
-  pub held : (doing.answer ≡ answers.Held) ↔ IsTrue (is_some holds)
+  pub held : (doing.answer ≡ answers.Held) ↔ IsTrue (is_some user_holding)
   pub none : (doing.answer ≡ answers.None)
-      ↔ ((holds ≡ None)
+      ↔ ((user_holding ≡ None)
       × IsSomeAnd (slice_get doing.moments 0)
-      (λ moment. first_free (is_free (after moment.before)) machine.dim dim ≡ None))
+      (λ moment. first_free_subcube (is_free (after moment.before)) machine.dim dim ≡ None))
 
--- the command is no getcube, or is refused exactly where it must be
-abbrev pub IsRefusedIfGetcube : MachineParts → List Doing → Doing → Type 0
-IsRefusedIfGetcube machine before doing = elim doing.command [
-  | Getcube dim ↦ IsRefusedExactly machine (holding_behind before) dim doing
+-- a command of who holds this is no getcube, or is refused exactly where it must be
+abbrev pub IsRefusedIfGetcube : MachineParts → Option Holding → Doing → Type 0
+IsRefusedIfGetcube machine user_holding doing = elim doing.command [
+  | Getcube dim ↦ IsRefusedExactly machine user_holding dim doing
   | other ↦ Unit {0}
 ]
 
 -- each getcube of a user is refused exactly where it must be
 abbrev pub AreRefusedExactly : MachineParts → List Doing → Type 0
-AreRefusedExactly machine doings = EachAfter (IsRefusedIfGetcube machine) [] doings
+AreRefusedExactly machine doings =
+    EachAfter (λ earlier_doings doing.
+    IsRefusedIfGetcube machine (holding_behind earlier_doings) doing) [] doings

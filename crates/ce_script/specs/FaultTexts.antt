@@ -25,8 +25,9 @@ kind_part (Assembly kind) = codes "assembly: "
 kind_part BadImage = codes "bad image"
 kind_part (Memory cause) = no_memory
 
--- behind it stands the assembler's own text, where the assembler found the fault, and else nothing; a script's own
--- kinds stand for the assembler's Memory and BadByte, so no fault of a script has these two
+-- behind it stands the assembler's own text, where the assembler found the fault, and else nothing;
+-- a script's own kinds stand for the assembler's Memory and BadByte, so no fault of a script has
+-- these two
 unfoldable pub assembly_part : ScriptKind → List ℕ
 assembly_part (Assembly kind) = assembly_text kind
 assembly_part other = []

@@ -9,7 +9,7 @@ use Rattle.ce_host.specs.declared.command.Command.{Command}
 use Rattle.ce_host.specs.declared.command.Command.TheVariants.{Getcube, Peek, Freecube, Spawn, Kill, Send, Run, Recv, Dump, Trace}
 use Rattle.ce_script.specs.declared.script.Script.{Script}
 use Rattle.ce_script.specs.Names.{is_name}
-use Rattle.ce_script.specs.Bounds.{IsCommandWithin, IsOwnCommandWithin, AreNames, IsSilent, IsWithinLimits}
+use Rattle.ce_script.specs.Bounds.{IsCommandWithin, IsUserCommandWithin, AreNames, IsSilent, IsWithinLimits}
 
 -- ---- a list has no members
 
@@ -33,7 +33,8 @@ unfolding empty_is
 back e = path_j' (λ xs e. empty_is xs (is_empty e) ≡ e) refl e
 
 empty-prop : {A : Type 0} (xs : List A) → IsProp (xs ≡ [])
-empty-prop xs = λ a b. sym (back a) ∙ ap (empty_is xs) (IsEmpty-prop xs (is_empty a) (is_empty b)) ∙ back b
+empty-prop xs =
+    λ a b. sym (back a) ∙ ap (empty_is xs) (IsEmpty-prop xs (is_empty a) (is_empty b)) ∙ back b
 
 -- ---- the parts
 
@@ -49,11 +50,14 @@ IsCommandWithin-prop images (Kill to) = hlevel props
 IsCommandWithin-prop images (Send to bytes) = hlevel props
 IsCommandWithin-prop images (Run count) = hlevel props
 IsCommandWithin-prop images (Recv count) = hlevel props
-IsCommandWithin-prop images (Dump at) = hlevel props
+IsCommandWithin-prop images (Dump place) = hlevel props
 IsCommandWithin-prop images Trace = hlevel props
 
 AreNames-prop : (names : List (List ℕ)) → IsProp (AreNames names)
-AreNames-prop names = λ a b i. record { each = each-prop a.each b.each i; distinct = distinct-prop a.distinct b.distinct i }
+AreNames-prop names = λ a b i. record {
+  each = each-prop a.each b.each i;
+  distinct = distinct-prop a.distinct b.distinct i;
+}
   where
     each-prop : IsProp (AllByRecursion (λ name. IsTrue (is_name name)) names)
     each-prop = hlevel props
@@ -62,7 +66,8 @@ AreNames-prop names = λ a b i. record { each = each-prop a.each b.each i; disti
     distinct-prop = hlevel props
 
 IsSilent-prop : (script : Script) → IsProp (IsSilent script)
-IsSilent-prop script = hlevel (props, empty-prop script.images, empty-prop script.users, empty-prop script.commands)
+IsSilent-prop script =
+    hlevel (props, empty-prop script.images, empty-prop script.users, empty-prop script.commands)
 
 -- ---- all of them
 
@@ -80,7 +85,9 @@ IsWithinLimits-prop {script} = λ a b i. record {
     dim-prop : IsProp (IfSome script.dim (λ dim. dim ≤ greatest_dim))
     dim-prop = hlevel props
 
-    commands-prop : IsProp (AllByRecursion (IsOwnCommandWithin (length script.users) (length script.images)) script.commands)
+    commands-prop : IsProp
+        (AllByRecursion
+        (IsUserCommandWithin (length script.users) (length script.images)) script.commands)
     commands-prop = hlevel (props, IsCommandWithin-prop)
 
     machine-prop : IsProp (script.dim ≡ None → IsSilent script)

@@ -3,7 +3,7 @@ use Rattle.std.specs.Prelude.{ℕ, suc, Bool, not, List, [], ◌∷◌, ◌++◌
 use Rattle.std.specs.List.{list_all, enumerate_from}
 use Rattle.ce_text.specs.Bytes.{is_plain}
 use Rattle.ce_text.specs.Line.{line_texts, before_comment}
-use Rattle.ce_text.specs.Words.{words_between}
+use Rattle.ce_text.specs.Words.{line_words}
 
 -- ---- members of a list, each with its surroundings
 
@@ -38,13 +38,14 @@ lines text =
 
 -- the words of a line: what stands between blanks before its comment
 abbrev pub words : Line → List (List ℕ)
-words line = words_between (before_comment line.text)
+words line = line_words (before_comment line.text)
 
--- before the comment of a line stands a byte that is neither a blank nor a character of ASCII that can be seen
+-- before the comment of a line stands a byte that is neither a blank nor a character of ASCII that
+-- can be seen
 abbrev pub has_bad_byte : Line → Bool
 has_bad_byte line = not (list_all is_plain (before_comment line.text))
 
 -- one more than how many bytes are left, and 0 at the end
-abbrev pub size_of : Option (List ℕ) → ℕ
-size_of None = 0
-size_of (Some text) = suc (length text)
+abbrev pub rest_size : Option (List ℕ) → ℕ
+rest_size None = 0
+rest_size (Some text) = suc (length text)

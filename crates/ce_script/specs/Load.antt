@@ -1,7 +1,8 @@
--- The script of the load: four users, each with a ring of four processes that hand one message round.
+-- The script of the load: four users, each with a ring of four processes that hand one message
+-- round.
 use Rattle.std.specs.Prelude.{ℕ, zero, suc, ◌+◌, ◌*◌, ◌%◌, ◌^◌, List, [], ◌∷◌, ◌++◌, map, flat_map, Some, codes}
 use Rattle.std.specs.Int.{w32, to_le_bytes}
-use Rattle.ce_text.specs.Bytes.{line_feed}
+use Rattle.ce_text.specs.Line.{lines_text}
 use Rattle.rv_model.specs.Image.{ImageParts}
 use Rattle.ce_model.specs.declared.limits.TheConstants.{GREATEST_COUNT}
 use Rattle.ce_model.specs.Literals.{place}
@@ -14,8 +15,9 @@ use Rattle.ce_script.specs.Bodies.{image_or_nothing}
 
 -- ---- its image
 
--- the lines of the program: it receives a block, adds its node's number and one to the block's first word, takes one from the second,
--- and hands the block to the next node; at zero it hands it to the host
+-- the lines of the program: it receives a block, adds its node's number and one to the block's
+-- first word, takes one from the second, and hands the block to the next node; at zero it hands it
+-- to the host
 abbrev pub ring_lines : List (List ℕ)
 ring_lines =
     codes "loop: li a7, 7"
@@ -48,7 +50,7 @@ ring_lines =
 
 -- the program's text
 abbrev pub ring_text : List ℕ
-ring_text = flat_map (λ line. line ++ line_feed ∷ []) ring_lines
+ring_text = lines_text ring_lines
 
 -- the program's image
 unfoldable pub ring_image : ImageParts

@@ -1,8 +1,9 @@
 -- A user's part of the history of the machine: its entries, and the cube that it holds by them.
-use Rattle.std.specs.Prelude.{ℕ, ◌==◌, List, [], ◌∷◌, ◌++◌, map, filter, fold, Option, Some, None, option_map}
+use Rattle.std.specs.Prelude.{◌≡◌, ℕ, ◌==◌, List, [], ◌∷◌, ◌++◌, map, filter, fold, Option, Some, None, option_map, is_some, IsTrue}
 use Rattle.ce_model.specs.declared.entry.Entry.{Entry}
 use Rattle.ce_model.specs.declared.entry.What.TheVariants.{Getcube, Peek, Drain, Freecube}
 use Rattle.ce_model.specs.Renaming.{CubeGrant, entry_inward}
+use Rattle.ce_model.specs.Answers.{recorded_call}
 
 -- an entry of the history, and the entries before it
 pub record Moment : Type 0 where
@@ -29,6 +30,10 @@ moment_entries moments = map (λ moment. moment.entry) moments
 abbrev pub own_entries : ℕ → List Entry → List Entry
 own_entries user entries = filter (λ entry. entry.user == user) entries
 
+-- the entry is a call of this user's cube
+abbrev pub IsCallOf : ℕ → Entry → Type 0
+IsCallOf user entry = (entry.user ≡ user) × IsTrue (is_some (recorded_call entry.what))
+
 -- ---- the cube that a user holds
 
 -- a cube that a user holds, and its trace so far
@@ -38,18 +43,21 @@ pub record Holding : Type 0 where
 
 -- the cube, once it has made an entry more
 abbrev pub with_entry : Entry → Holding → Holding
-with_entry entry held = record held { trace = held.trace ++ entry_inward held.grant.sub entry ∷ [] }
+with_entry entry user_holding = record user_holding {
+  trace = user_holding.trace
+      ++ entry_inward user_holding.grant.sub entry ∷ [];
+}
 
 -- what a user holds, once it has made an entry
 abbrev pub next_holding : Option Holding → Entry → Option Holding
-next_holding held entry = elim entry.what [
+next_holding user_holding entry = elim entry.what [
   | Getcube dim (Some sub) ↦ Some
       (record { grant = record { user = entry.user; dim = dim; sub = sub }; trace = [] })
-  | Getcube dim None ↦ held
-  | Peek ↦ held
-  | Drain ↦ held
+  | Getcube dim None ↦ user_holding
+  | Peek ↦ user_holding
+  | Drain ↦ user_holding
   | Freecube ↦ None
-  | other ↦ option_map (with_entry entry) held
+  | other ↦ option_map (with_entry entry) user_holding
 ]
 
 -- the cube that a user holds by its own entries so far

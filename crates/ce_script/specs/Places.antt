@@ -19,7 +19,8 @@ pub record AreIndexed (indexes : Indexes) (so_far : ScriptSoFar) : Type 0 where
   pub users : IsIndexOf indexes.users so_far.script.users
   pub images : IsIndexOf indexes.images (names_so_far so_far)
 
-pub AreIndexed-prop : (indexes : Indexes) (so_far : ScriptSoFar) → IsProp (AreIndexed indexes so_far)
+pub AreIndexed-prop : (indexes : Indexes) (so_far : ScriptSoFar)
+    → IsProp (AreIndexed indexes so_far)
 AreIndexed-prop indexes so_far a b = λ i. record {
   users = IsIndexOf-prop indexes.users so_far.script.users a.users b.users i;
   images = IsIndexOf-prop indexes.images (names_so_far so_far) a.images b.images i;

@@ -6,9 +6,9 @@ use Rattle.ce_text.specs.Line.{cut_parts}
 use Rattle.ce_script.specs.declared.reader.line.WordedLine.{WordedLine}
 use Rattle.ce_script.specs.declared.reader.rest.Rest.{Rest}
 use Rattle.ce_script.specs.declared.reader.rest.Body.{Body}
-use Rattle.ce_script.specs.Lines.{Line, words, size_of}
+use Rattle.ce_script.specs.Lines.{Line, words, rest_size}
 use Rattle.ce_script.specs.Statements.{ScriptStatement, is_end, begins_image, found_body}
-use Rattle.ce_script.specs.Bodies.{text_of}
+use Rattle.ce_script.specs.Bodies.{body_text}
 
 -- the line
 abbrev pub plain_line : WordedLine → Line
@@ -29,16 +29,16 @@ numbered_lines first texts =
     map (λ line. record { number = line.0; text = line.1 }) (enumerate_from first texts)
 
 -- the bytes that are left
-abbrev pub left_of : Rest → Option (List ℕ)
-left_of rest = option_map (λ text. text.now) rest.text
+abbrev pub rest_text : Rest → Option (List ℕ)
+rest_text rest = option_map (λ text. text.now) rest.text
 
 -- the lines that are left
 abbrev pub lines_left : Rest → List Line
-lines_left rest = numbered_lines (rest.line_count + 1) (texts_left (left_of rest))
+lines_left rest = numbered_lines (rest.line_count + 1) (texts_left (rest_text rest))
 
 -- how many lines are done, and how many bytes are left
 abbrev pub reach_of : Rest → ℕ
-reach_of rest = rest.line_count + size_of (left_of rest)
+reach_of rest = rest.line_count + rest_size (rest_text rest)
 
 -- these lines are left behind those, or are the same
 pub record IsLater (rest next : Rest) : Type 0 where
@@ -46,26 +46,28 @@ pub record IsLater (rest next : Rest) : Type 0 where
   pub reach : reach_of next ≤ reach_of rest
 
 -- the first line that is left has this text, and behind it these lines are left
-pub record IsFirstLine (here : Rest) (line : List ℕ) (next : Rest) : Type 0 where
+pub record IsFirstLine (rest : Rest) (line : List ℕ) (next : Rest) : Type 0 where
   pub bytes : List ℕ
-  pub is : left_of here ≡ Some bytes
-  pub parts : (line, left_of next) ≡ cut_parts is_line_feed bytes
-  pub before : next.line_count ≡ here.line_count + 1
-  pub shorter : IfSome next.text (λ behind. length behind.now < length bytes)
+  pub is : rest_text rest ≡ Some bytes
+  pub parts : (line, rest_text next) ≡ cut_parts is_line_feed bytes
+  pub before : next.line_count ≡ rest.line_count + 1
+  pub shorter : IfSome next.text (λ text. length text.now < length bytes)
 
 -- ---- statements, line by line
 
 -- whether what follows a line stands inside an image, where the line does or does not
-abbrev pub is_inside_behind : Bool → Line → Bool
-is_inside_behind inside line = if is_end line then false else (inside || begins_image line)
+abbrev pub is_inside_image_behind : Bool → Line → Bool
+is_inside_image_behind is_inside line =
+    if is_end line then false else (is_inside || begins_image line)
 
 -- the statements on lines, where the first stands inside an image or not
 unfoldable pub remaining_statements : Bool → List Line → List ScriptStatement
-remaining_statements inside [] = []
-remaining_statements inside (line ∷ lines) =
-    let others = remaining_statements (is_inside_behind inside line) lines in
-    if (length (words line) == 0) || inside then others
-    else record { line = line; body = if begins_image line then found_body lines else None } ∷ others
+remaining_statements is_inside [] = []
+remaining_statements is_inside (line ∷ lines) =
+    let others = remaining_statements (is_inside_image_behind is_inside line) lines in
+    if (length (words line) == 0) || is_inside then others
+    else record { line = line; body = if begins_image line then found_body lines else None }
+    ∷ others
 
 -- ---- bodies
 
@@ -74,20 +76,21 @@ abbrev pub body_lines : Body → List Line
 body_lines body = numbered_lines (body.line + 1) (slice_split is_line_feed body.text.now)
 
 -- an empty line behind others
-abbrev pub with_empty : List Line → ℕ → List Line
-with_empty lines number = lines ++ record { number = number; text = [] } ∷ []
+abbrev pub with_empty_line : List Line → ℕ → List Line
+with_empty_line lines number = lines ++ record { number = number; text = [] } ∷ []
 
 -- the body has these lines
 pub record IsBody (body : Body) (lines : List Line) : Type 0 where
-  pub text : text_of lines ≡ body.text.now
+  pub text : body_text lines ≡ body.text.now
   pub last : ℕ
-  pub shown : body_lines body ≡ with_empty lines last
+  pub shown : body_lines body ≡ with_empty_line lines last
 
 -- the body of the image whose line stands before what is left, and what is left behind its `end`
-pub record IsBodyIn (rest : Rest) (body : Body) (after : Rest) : Type 0 where
+pub record IsBodyIn (rest : Rest) (body : Body) (next : Rest) : Type 0 where
   pub lines : List Line
   pub here : found_body (lines_left rest) ≡ Some lines
   pub is : IsBody body lines
   pub at : body.line ≡ rest.line_count
-  pub past : remaining_statements true (lines_left rest) ≡ remaining_statements false (lines_left after)
-  pub later : IsLater rest after
+  pub past : remaining_statements true (lines_left rest)
+      ≡ remaining_statements false (lines_left next)
+  pub later : IsLater rest next

@@ -16,40 +16,44 @@ use Rattle.ce_script.specs.Bodies.{located_fault}
 use Rattle.ce_script.specs.Faults.{image_fault}
 use Rattle.ce_script.specs.Reading.{ScriptUnless, word_fault, place_fault}
 use Rattle.ce_script.specs.ReadLines.{lines_left, remaining_statements}
-use Rattle.ce_script.specs.Standing.{begin_fault, with_statement, rest_fault, statement_judgment, with_body, on_line, IsPast, first_statement_fault, HasReadUpTo}
+use Rattle.ce_script.specs.Standing.{begin_fault, with_statement, rest_fault, statement_judgment, statement_with_body, statement_on_line, IsPast, first_statement_fault, HasReadUpTo}
 
 -- the reader found the verb of a statement that may stand here,
 -- or what is wrong with its words or its place
-abbrev pub HasBegun : Result Verb ScriptKind → ScriptSoFar → ScriptStatement → Type 0
-HasBegun (Ok verb) so_far here =
-    (word_fault here ≡ None) × (verb_of (words here.line) ≡ Some verb)
+abbrev pub HasReadVerb : Result Verb ScriptKind → ScriptSoFar → ScriptStatement → Type 0
+HasReadVerb (Ok verb) so_far statement =
+    (word_fault statement ≡ None) × (verb_of (words statement.line) ≡ Some verb)
     × (place_fault (is_some so_far.script.dim) (is_some so_far.user) verb ≡ None)
-HasBegun (Err kind) so_far here = ScriptUnless kind (begin_fault so_far here ≡ Some kind)
+HasReadVerb (Err kind) so_far statement =
+    ScriptUnless kind (begin_fault so_far statement ≡ Some kind)
 
 -- the reader knows this now where there is no fault, and else the fault was found
-abbrev pub HasSaid : Result Reader ScriptKind → Option ScriptKind → ScriptSoFar → Type 0
-HasSaid (Ok reader) fault so_far = (fault ≡ None) × (reader.so_far ≡ so_far)
-HasSaid (Err kind) fault so_far = ScriptUnless kind (fault ≡ Some kind)
+abbrev pub HasReadPart : Result Reader ScriptKind → Option ScriptKind → ScriptSoFar → Type 0
+HasReadPart (Ok reader) fault so_far = (fault ≡ None) × (reader.so_far ≡ so_far)
+HasReadPart (Err kind) fault so_far = ScriptUnless kind (fault ≡ Some kind)
 
 -- the reader added the image that a line begins, or found what is wrong
-abbrev pub HasSaidImage : Result (Reader × Rest) ScriptFault → ScriptSoFar → WordedLine → Rest
+abbrev pub HasReadImage : Result (Reader × Rest) ScriptFault → ScriptSoFar → WordedLine → Rest
     → Type 0
-HasSaidImage (Ok next) old line rest =
-    (rest_fault old Image (with_body line rest) ≡ None) × (image_fault (with_body line rest) ≡ None)
-    × (next.0.so_far ≡ with_statement old Image (with_body line rest))
-HasSaidImage (Err fault) old line rest =
+HasReadImage (Ok next) old line rest =
+    (rest_fault old Image (statement_with_body line rest) ≡ None)
+    × (image_fault (statement_with_body line rest) ≡ None)
+    × (next.0.so_far ≡ with_statement old Image (statement_with_body line rest))
+HasReadImage (Err fault) old line rest =
     ScriptUnless fault.kind
-    (option_or (option_map (located_fault line.number) (rest_fault old Image (with_body line rest)))
-    (image_fault (with_body line rest)) ≡ Some fault)
+    (option_or (option_map (located_fault line.number)
+    (rest_fault old Image (statement_with_body line rest)))
+    (image_fault (statement_with_body line rest)) ≡ Some fault)
 
 -- the reader added what a statement says, or found what is wrong
-abbrev pub HasSaidStatement : Result (Reader × Rest) ScriptFault → ScriptSoFar → WordedLine → Rest
+abbrev pub HasReadStatement : Result (Reader × Rest) ScriptFault → ScriptSoFar → WordedLine → Rest
     → Type 0
-HasSaidStatement (Ok next) old line rest = IsPast old next.0.so_far line rest next.1
-HasSaidStatement (Err fault) old line rest =
-    ScriptUnless fault.kind (statement_judgment old (on_line line rest) ≡ Some fault)
+HasReadStatement (Ok next) old line rest = IsPast old next.0.so_far line rest next.1
+HasReadStatement (Err fault) old line rest =
+    ScriptUnless fault.kind (statement_judgment old (statement_on_line line rest) ≡ Some fault)
 
 -- the reader went on to where these lines are left, or found the first fault
-abbrev pub HasKept : List ScriptStatement → Result (Reader × Rest) ScriptFault → Type 0
-HasKept all (Ok next) = HasReadUpTo all next.0.so_far (remaining_statements false (lines_left next.1))
-HasKept all (Err fault) = ScriptUnless fault.kind (first_statement_fault all ≡ Some fault)
+abbrev pub HasReadStatements : List ScriptStatement → Result (Reader × Rest) ScriptFault → Type 0
+HasReadStatements all (Ok next) =
+    HasReadUpTo all next.0.so_far (remaining_statements false (lines_left next.1))
+HasReadStatements all (Err fault) = ScriptUnless fault.kind (first_statement_fault all ≡ Some fault)

@@ -1,4 +1,5 @@
--- How a statement is judged part by part as it is read: what is judged when, and what is made of it.
+-- How a statement is judged part by part as it is read: what is judged when, and what is made of
+-- it.
 use Rattle.std.specs.Prelude.{◌≡◌, ℕ, Bool, not, ◌&&◌, nat_lt, if◌then◌else◌, List, [], ◌∷◌, ◌++◌, map, length, Option, Some, None, Result, Ok, Err}
 use Rattle.std.specs.List.{enumerate_from}
 use Rattle.std.specs.Option.{option_or}
@@ -10,9 +11,9 @@ use Rattle.ce_script.specs.declared.script.ScriptKind.{ScriptKind}
 use Rattle.ce_script.specs.declared.script.ScriptKind.TheVariants.{BadByte, UnknownWord, WordCount, NoMachine, SecondMachine, NoUser, BadName, TooMany, Assembly, Memory}
 use Rattle.ce_script.specs.Lines.{has_bad_byte}
 use Rattle.ce_script.specs.Names.{is_name}
-use Rattle.ce_script.specs.Verbs.{is_machine, is_command, operands_of}
+use Rattle.ce_script.specs.Verbs.{is_machine, is_command, verb_operands}
 use Rattle.ce_script.specs.Statements.{ScriptStatement, operand}
-use Rattle.ce_script.specs.Faults.{first_some, kind_where, is_unknown, has_wrong_count, is_one_name_of, operand_fault}
+use Rattle.ce_script.specs.Faults.{first_some, kind_where, has_unknown_word, has_wrong_count, is_one_name_of, operand_fault}
 
 -- ---- judgments
 
@@ -30,38 +31,40 @@ HasJudged (Err kind) fault value = ScriptUnless kind (fault ≡ Some kind)
 -- the same of a call whose fault has a line
 abbrev pub HasFound : {A : Type 0} → Result A ScriptFault → Option ScriptFault → Option A → Type 0
 HasFound (Ok x) fault value = (fault ≡ None) × (value ≡ Some x)
-HasFound (Err it) fault value = ScriptUnless it.kind (fault ≡ Some it)
+HasFound (Err answer) fault value = ScriptUnless answer.kind (fault ≡ Some answer)
 
 -- ---- what is wrong with a line, in the parts in which it is judged
 
 -- with its bytes and words alone
 unfoldable pub word_fault : ScriptStatement → Option ScriptKind
-word_fault here =
-    option_or (kind_where (has_bad_byte here.line) BadByte)
-    (option_or (kind_where (is_unknown here) UnknownWord) (kind_where (has_wrong_count here) WordCount))
+word_fault statement =
+    option_or (kind_where (has_bad_byte statement.line) BadByte)
+    (option_or (kind_where (has_unknown_word statement) UnknownWord)
+    (kind_where (has_wrong_count statement) WordCount))
 
 -- with its place, where there was a machine line before it or none, and a user line or none
 unfoldable pub place_fault : Bool → Bool → Verb → Option ScriptKind
-place_fault machine user verb =
-    option_or (kind_where (not (is_machine verb) && not machine) NoMachine)
-    (option_or (kind_where (is_machine verb && machine) SecondMachine)
-    (kind_where (is_command verb && not user) NoUser))
+place_fault has_machine has_user verb =
+    option_or (kind_where (not (is_machine verb) && not has_machine) NoMachine)
+    (option_or (kind_where (is_machine verb && has_machine) SecondMachine)
+    (kind_where (is_command verb && not has_user) NoUser))
 
 -- with its operands, where the earlier images have these names
 unfoldable pub operands_judgment : List (List ℕ) → Verb → ScriptStatement → Option ScriptKind
-operands_judgment names verb here =
+operands_judgment names verb statement =
     first_some
-    (map (λ placed. operand_fault names placed.1 (operand placed.0 here))
-    (enumerate_from 1 (operands_of verb)))
+    (map (λ placed_operand. operand_fault names placed_operand.1
+    (operand placed_operand.0 statement))
+    (enumerate_from 1 (verb_operands verb)))
 
 -- ---- users
 
 -- the names with one more, unless it is among them
-abbrev pub with_name : List (List ℕ) → List ℕ → List (List ℕ)
-with_name names name = if is_one_name_of names name then names else names ++ name ∷ []
+abbrev pub with_user_name : List (List ℕ) → List ℕ → List (List ℕ)
+with_user_name names name = if is_one_name_of names name then names else names ++ name ∷ []
 
 -- what is wrong with a user line behind these users
 abbrev pub user_fault : List (List ℕ) → List ℕ → Option ScriptKind
 user_fault names name =
     option_or (kind_where (not (is_name name)) BadName)
-    (kind_where (nat_lt greatest_users (length (with_name names name))) TooMany)
+    (kind_where (nat_lt greatest_users (length (with_user_name names name))) TooMany)

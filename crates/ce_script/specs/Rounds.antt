@@ -1,4 +1,5 @@
--- Rounds: how the nodes of a cube take their turns between two entries of its host. Entries have the cube's numbers for its nodes.
+-- Rounds: how the nodes of a cube take their turns between two entries of its host. Entries have
+-- the cube's numbers for its nodes.
 use Rattle.std.specs.Prelude.{◌≡◌, ℕ, ◌^◌, ◌<◌, Bool, true, false, ◌==◌, List, [], ◌∷◌, ◌++◌, filter, flat_map, Option, Some, None, is_some, IsTrue, IsFalse}
 use Rattle.std.specs.List.{list_any, AllByRecursion, AllZip}
 use Rattle.std.specs.Option.{option_map_or}
@@ -9,7 +10,8 @@ use Rattle.ce_model.specs.Node.{Call, take_call}
 use Rattle.ce_model.specs.Trace.{is_work}
 use Rattle.ce_model.specs.Cube.{Cube, CubeState, node_numbers, next_call}
 
--- how the nodes take their turns in all rounds of a record: one after another, or each on a thread of its own
+-- how the nodes take their turns in all rounds of a record: one after another, or each on a thread
+-- of its own
 pub data RoundKind : Type 0 where
   serial : RoundKind
   threaded : RoundKind
@@ -60,7 +62,8 @@ pub record IsShare (r : ℕ) (share : List Entry) : Type 0 where
   pub without_work : IsFalse (is_dispatch last)
   pub all : share ≡ joined_lists turns ++ last ∷ []
 
--- a threaded round: each node of a cube of this dimension has its share, and the entries of the nodes interleave freely
+-- a threaded round: each node of a cube of this dimension has its share, and the entries of the
+-- nodes interleave freely
 pub record IsThreadedRound (dim : ℕ) (round : List Entry) : Type 0 where
   pub nodes : AllByRecursion (λ entry. entry.actor < 2 ^ dim) round
   pub shares : (r : ℕ) → r < 2 ^ dim → IsShare r (filter (λ entry. entry.actor == r) round)

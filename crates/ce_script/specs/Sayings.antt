@@ -17,8 +17,8 @@ use Rattle.ce_script.specs.Bodies.{empty_image, form_image}
 -- ---- statements of one kind
 
 -- the statements that begin with a verb of this kind
-abbrev pub of_kind : (Verb → Bool) → List ScriptStatement → List ScriptStatement
-of_kind kind all = filter (has_verb_kind kind) all
+abbrev pub statements_of_kind : (Verb → Bool) → List ScriptStatement → List ScriptStatement
+statements_of_kind kind all = filter (has_verb_kind kind) all
 
 -- the first words behind the verbs of these statements
 abbrev pub stated_names : List ScriptStatement → List (List ℕ)
@@ -31,13 +31,15 @@ name_number name names = unwrap_or (position (bytes_eq name) names) 0
 -- names, each where it first appears alone
 abbrev pub without_repeats : List (List ℕ) → List (List ℕ)
 without_repeats [] = []
-without_repeats (name ∷ names) = name ∷ filter (λ other. not (bytes_eq name other)) (without_repeats names)
+without_repeats (name ∷ names) =
+    name ∷ filter (λ other. not (bytes_eq name other)) (without_repeats names)
 
 -- ---- operands
 
 -- the number that an operand writes
 abbrev pub operand_number : ℕ → ScriptStatement → ℕ
-operand_number place statement = unwrap_or (bounded_number greatest_number (operand place statement)) 0
+operand_number place statement =
+    unwrap_or (bounded_number greatest_number (operand place statement)) 0
 
 -- the node and the process id that two operands write, the first of them this one
 abbrev pub operand_place : ℕ → ScriptStatement → Place
@@ -61,15 +63,15 @@ stated_image statement =
 unfoldable pub images : List ScriptStatement → List NamedImage
 images all =
     map (λ statement. record { name = operand 1 statement; image = stated_image statement })
-    (of_kind is_image all)
+    (statements_of_kind is_image all)
 
 -- the names of the images, by number
 unfoldable pub image_names : List ScriptStatement → List (List ℕ)
-image_names all = stated_names (of_kind is_image all)
+image_names all = stated_names (statements_of_kind is_image all)
 
 -- the names of the users, by number, in order of first appearance
 unfoldable pub users : List ScriptStatement → List (List ℕ)
-users all = without_repeats (stated_names (of_kind is_user all))
+users all = without_repeats (stated_names (statements_of_kind is_user all))
 
 -- ---- commands
 
@@ -98,9 +100,11 @@ command_of_statement images statement =
 
 -- the name in the last `user` statement
 abbrev pub last_user : List ScriptStatement → List ℕ
-last_user before = unwrap_or (last_or None (stated_names (of_kind is_user before))) []
+last_user earlier_statements =
+    unwrap_or (last_or None (stated_names (statements_of_kind is_user earlier_statements))) []
 
--- the command of a statement among all, with the number of the user whose `user` statement comes last before it
+-- the command of a statement among all, with the number of the user whose `user` statement comes
+-- last before it
 abbrev pub numbered_command : List ScriptStatement → Spot ScriptStatement → Option (ℕ × Command)
 numbered_command all spot =
     option_map (λ command. (name_number (last_user spot.before) (users all), command))

@@ -6,11 +6,11 @@ use Rattle.ce_script.specs.declared.script.ScriptKind.{ScriptKind}
 use Rattle.ce_script.specs.declared.script.ScriptKind.TheVariants.{Memory}
 use Rattle.ce_script.specs.Statements.{statements}
 use Rattle.ce_script.specs.Sayings.{dimension, images, users, commands}
-use Rattle.ce_script.specs.Faults.{first_fault}
+use Rattle.ce_script.specs.Faults.{first_script_fault}
 
 -- A text is this script: it has no fault, and its statements say this.
 pub record IsScript (text : List ℕ) (script : Script) : Type 0 where
-  pub no_fault : first_fault text ≡ None
+  pub no_fault : first_script_fault text ≡ None
   pub dim : script.dim ≡ dimension (statements text)
   pub images : script.images ≡ images (statements text)
   pub users : script.users ≡ users (statements text)
@@ -23,7 +23,7 @@ IsNoMemory other = ⊥
 
 -- A text has a first fault.
 abbrev pub HasFault : List ℕ → Type 0
-HasFault text = (fault : ScriptFault) × (first_fault text ≡ Some fault)
+HasFault text = (fault : ScriptFault) × (first_script_fault text ≡ Some fault)
 
 -- A text is exactly one script.
 abbrev pub IsOneScript : List ℕ → Type 0

@@ -9,15 +9,17 @@ use Rattle.ce_script.specs.Legal.{EachUser, machine_of}
 
 -- what one user did, of what all did
 abbrev pub doings_of : ℕ → List (ℕ × Doing) → List Doing
-doings_of user all = map (λ own. own.1) (filter (λ own. own.0 == user) all)
+doings_of user all =
+    map (λ user_doing. user_doing.1) (filter (λ user_doing. user_doing.0 == user) all)
 
--- the entries of each command stand together in the history, the commands of all users go in the script's order, and every round
--- is a serial one
+-- the entries of each command stand together in the history, the commands of all users go in the
+-- script's order, and every round is a serial one
 pub record IsSerial (script : Script) (run_record : Record) : Type 0 where
   pub doings : List (ℕ × Doing)
-  pub commands : map (λ own. (own.0, own.1.command)) doings ≡ script.commands
-  pub together : flat_map (λ own. own.1.moments) doings ≡ moments run_record.history
+  pub commands : map (λ user_doing. (user_doing.0, user_doing.1.command)) doings ≡ script.commands
+  pub together : flat_map (λ user_doing. user_doing.1.moments) doings ≡ moments run_record.history
   pub each : EachUser
       (λ number user.
-      AreDoings serial (machine_of script) run_record.history number user.done (doings_of number doings))
+      AreDoings serial (machine_of script) run_record.history number user.done
+      (doings_of number doings))
       run_record

@@ -1,10 +1,9 @@
 -- Numbers and bytes as words spell them.
-use Rattle.std.specs.Prelude.{ℕ, ◌-◌, ◌*◌, ◌^◌, ◌%◌, Bool, ◌&&◌, ◌==◌, nat_le, if◌then◌else◌, List, [], ◌∷◌, Option, Some, None, length, bytes_eq, codes}
+use Rattle.std.specs.Prelude.{ℕ, ◌-◌, ◌^◌, ◌%◌, Bool, ◌&&◌, ◌==◌, nat_le, if◌then◌else◌, List, [], ◌∷◌, Option, Some, None, length, bytes_eq, codes}
 use Rattle.std.specs.Int.{w32, to_le_bytes}
 use Rattle.std.specs.Str.Parse.{digits_value}
 use Rattle.ce_text.specs.Number.{are_digits, number_of_digits}
-use Rattle.ce_model.specs.Limits.{block_room}
-use Rattle.ce_script.specs.declared.spelling.TheConstants.{INSTRUCTION_DIGITS, NUMBER_DIGITS}
+use Rattle.ce_script.specs.declared.spelling.TheConstants.{DATA_DIGITS, INSTRUCTION_DIGITS, NUMBER_DIGITS}
 
 -- ---- numbers
 
@@ -14,8 +13,8 @@ greatest_number = 2 ^ 32 - 1
 
 -- the number that a word writes in decimal digits, where it writes one that is at most this
 unfoldable pub bounded_number : ℕ → List ℕ → Option ℕ
-bounded_number most word =
-    if nat_le (length word) NUMBER_DIGITS then number_of_digits 10 most word else None
+bounded_number greatest word =
+    if nat_le (length word) NUMBER_DIGITS then number_of_digits 10 greatest word else None
 
 -- ---- bytes
 
@@ -36,12 +35,13 @@ written_bytes word = if are_byte_digits word then Some (digit_bytes word) else N
 -- the bytes of an instruction word, which has `INSTRUCTION_DIGITS` digits, the lowest first
 unfoldable pub instruction_in : List ℕ → Option (List ℕ)
 instruction_in word =
-    if are_digits 16 word && (length word == INSTRUCTION_DIGITS) then Some (to_le_bytes w32 (digits_value 16 word))
+    if are_digits 16 word && (length word == INSTRUCTION_DIGITS)
+    then Some (to_le_bytes w32 (digits_value 16 word))
     else None
 
 -- the bytes of a message, as many as a block can hold; `-` is none
 unfoldable pub data_in : List ℕ → Option (List ℕ)
 data_in word =
     if bytes_eq word (codes "-") then Some []
-    else if nat_le (length word) (2 * block_room) then written_bytes word
+    else if nat_le (length word) DATA_DIGITS then written_bytes word
     else None

@@ -22,13 +22,13 @@ use Rattle.ce_script.specs.Bodies.{located_fault}
 use Rattle.ce_script.specs.Sayings.{operand_number, name_number, stated_image, dimension, images, users, last_user, command_of_verb, numbered_command, commands}
 use Rattle.ce_script.specs.Faults.{first_some, kind_where, operand_fault, image_fault, statement_fault}
 use Rattle.ce_script.specs.ReadLines.{plain_line, lines_left, remaining_statements}
-use Rattle.ce_script.specs.Reading.{word_fault, place_fault, operands_judgment, with_name, user_fault}
+use Rattle.ce_script.specs.Reading.{word_fault, place_fault, operands_judgment, with_user_name, user_fault}
 
 -- ---- the script so far
 
 -- the names of the images
 abbrev pub names_so_far : ScriptSoFar → List (List ℕ)
-names_so_far so_far = map (λ named. named.name) so_far.script.images
+names_so_far so_far = map (λ named_image. named_image.name) so_far.script.images
 
 -- no more users and images than a machine can have
 pub record AreFew (so_far : ScriptSoFar) : Type 0 where
@@ -61,7 +61,7 @@ with_dim so_far dim =
 -- this user speaks
 abbrev pub with_user : ScriptSoFar → List ℕ → ScriptSoFar
 with_user so_far name =
-    let names = with_name so_far.script.users name in
+    let names = with_user_name so_far.script.users name in
     record {
       script = record {
         dim = so_far.script.dim;
@@ -93,15 +93,18 @@ with_command so_far command =
       users = so_far.script.users;
       commands =
           so_far.script.commands
-          ++ cons_option (option_map (λ it. (unwrap_or so_far.user 0, it)) command) [];
+          ++ cons_option
+          (option_map (λ own_command. (unwrap_or so_far.user 0, own_command)) command) [];
     })
 
 -- what is known behind a statement with this verb
 abbrev pub with_statement : ScriptSoFar → Verb → ScriptStatement → ScriptSoFar
-with_statement so_far Machine here = with_dim so_far (operand_number 1 here)
-with_statement so_far Image here = with_image so_far (operand 1 here) (stated_image here)
-with_statement so_far User here = with_user so_far (operand 1 here)
-with_statement so_far verb here = with_command so_far (command_of_verb verb (names_so_far so_far) here)
+with_statement so_far Machine statement = with_dim so_far (operand_number 1 statement)
+with_statement so_far Image statement =
+    with_image so_far (operand 1 statement) (stated_image statement)
+with_statement so_far User statement = with_user so_far (operand 1 statement)
+with_statement so_far verb statement =
+    with_command so_far (command_of_verb verb (names_so_far so_far) statement)
 
 -- ---- what is wrong with a statement
 
@@ -113,45 +116,47 @@ new_image_fault names name =
 
 -- with what stands behind its verb
 abbrev pub rest_fault : ScriptSoFar → Verb → ScriptStatement → Option ScriptKind
-rest_fault so_far User here = user_fault so_far.script.users (operand 1 here)
-rest_fault so_far Image here =
-    option_or (new_image_fault (names_so_far so_far) (operand 1 here))
-    (kind_where (is_none here.body) NoEnd)
-rest_fault so_far verb here = operands_judgment (names_so_far so_far) verb here
+rest_fault so_far User statement = user_fault so_far.script.users (operand 1 statement)
+rest_fault so_far Image statement =
+    option_or (new_image_fault (names_so_far so_far) (operand 1 statement))
+    (kind_where (is_none statement.body) NoEnd)
+rest_fault so_far verb statement = operands_judgment (names_so_far so_far) verb statement
 
 -- with the place and what stands behind the verb
 abbrev pub verb_fault : ScriptSoFar → Verb → ScriptStatement → Option ScriptKind
-verb_fault so_far verb here =
+verb_fault so_far verb statement =
     option_or (place_fault (is_some so_far.script.dim) (is_some so_far.user) verb)
-    (rest_fault so_far verb here)
+    (rest_fault so_far verb statement)
 
 -- with its line
 abbrev pub line_judgment : ScriptSoFar → ScriptStatement → Option ScriptKind
-line_judgment so_far here =
-    option_or (word_fault here)
-    (option_and_then (λ verb. verb_fault so_far verb here) (verb_of (words here.line)))
+line_judgment so_far statement =
+    option_or (word_fault statement)
+    (option_and_then (λ verb. verb_fault so_far verb statement) (verb_of (words statement.line)))
 
 -- with its line and its body
 abbrev pub statement_judgment : ScriptSoFar → ScriptStatement → Option ScriptFault
-statement_judgment so_far here =
-    option_or (option_map (located_fault here.line.number) (line_judgment so_far here)) (image_fault here)
+statement_judgment so_far statement =
+    option_or (option_map (located_fault statement.line.number) (line_judgment so_far statement))
+    (image_fault statement)
 
 -- what is wrong with its words or with its place
 abbrev pub begin_fault : ScriptSoFar → ScriptStatement → Option ScriptKind
-begin_fault so_far here =
-    option_or (word_fault here)
+begin_fault so_far statement =
+    option_or (word_fault statement)
     (option_and_then (place_fault (is_some so_far.script.dim) (is_some so_far.user))
-    (verb_of (words here.line)))
+    (verb_of (words statement.line)))
 
 -- ---- the statement on a line
 
 -- a line, and the body that may follow it
-abbrev pub with_body : WordedLine → Rest → ScriptStatement
-with_body line rest = record { line = plain_line line; body = found_body (lines_left rest) }
+abbrev pub statement_with_body : WordedLine → Rest → ScriptStatement
+statement_with_body line rest =
+    record { line = plain_line line; body = found_body (lines_left rest) }
 
 -- the statement of the line
-abbrev pub on_line : WordedLine → Rest → ScriptStatement
-on_line line rest = record {
+abbrev pub statement_on_line : WordedLine → Rest → ScriptStatement
+statement_on_line line rest = record {
   line = plain_line line;
   body = if begins_image (plain_line line) then found_body (lines_left rest) else None;
 }
@@ -160,8 +165,8 @@ on_line line rest = record {
 pub record IsPast (old new : ScriptSoFar) (line : WordedLine) (rest next : Rest) : Type 0 where
   pub verb : Verb
   pub is : verb_of (words (plain_line line)) ≡ Some verb
-  pub none : statement_judgment old (on_line line rest) ≡ None
-  pub state : new ≡ with_statement old verb (on_line line rest)
+  pub none : statement_judgment old (statement_on_line line rest) ≡ None
+  pub state : new ≡ with_statement old verb (statement_on_line line rest)
   pub past : remaining_statements (begins_image (plain_line line)) (lines_left rest)
       ≡ remaining_statements false (lines_left next)
 
@@ -186,7 +191,8 @@ abbrev pub first_statement_fault : List ScriptStatement → Option ScriptFault
 first_statement_fault all = first_some (map statement_fault (spots all))
 
 -- The reader knows what all statements but these last say, and none of those has a fault.
-pub record HasReadUpTo (all : List ScriptStatement) (so_far : ScriptSoFar) (rest : List ScriptStatement) : Type 0 where
+pub record HasReadUpTo (all : List ScriptStatement) (so_far : ScriptSoFar)
+    (rest : List ScriptStatement) : Type 0 where
   pub front : List ScriptStatement
   pub whole : all ≡ front ++ rest
   pub behind : IsBehind so_far front

@@ -34,25 +34,30 @@ is_end line = are_only (codes "end") (words line)
 abbrev pub begins_image : Line → Bool
 begins_image line = has_verb is_image (words line)
 
--- A line belongs to the body of an image, or ends one, where an image begins before it and no `end` comes between.
-abbrev pub is_inside : List Line → Bool
-is_inside before = list_any begins_image (after_last is_end before)
+-- A line belongs to the body of an image, or ends one, where an image begins before it and no `end`
+-- comes between.
+abbrev pub is_inside_image : List Line → Bool
+is_inside_image earlier_lines = list_any begins_image (after_last is_end earlier_lines)
 
 -- the lines of an image's body: those behind its own, up to an `end`
 unfoldable pub found_body : List Line → Option (List Line)
-found_body behind = if list_any is_end behind then Some (before_first is_end behind) else None
+found_body later_lines =
+    if list_any is_end later_lines then Some (before_first is_end later_lines) else None
 
 -- ---- statements
 
 -- the statement of a line
 abbrev pub line_statement : Spot Line → ScriptStatement
 line_statement spot =
-    record { line = spot.here; body = if begins_image spot.here then found_body spot.behind else None }
+    record {
+      line = spot.here;
+      body = if begins_image spot.here then found_body spot.behind else None;
+    }
 
 -- a statement stands on each line that has words and is not inside an image
 unfoldable pub standing_statement : Spot Line → Option ScriptStatement
 standing_statement spot =
-    if (length (words spot.here) == 0) || is_inside spot.before then None
+    if (length (words spot.here) == 0) || is_inside_image spot.before then None
     else Some (line_statement spot)
 
 -- the statements of a text, in order

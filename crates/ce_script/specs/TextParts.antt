@@ -23,11 +23,12 @@ line pieces = joined_words pieces ++ line_feed ∷ []
 -- the name of an image, by number
 abbrev pub image_name : Script → ℕ → List ℕ
 image_name script image =
-    unwrap_or (option_map (λ named. named.name) (slice_get script.images image)) []
+    unwrap_or (option_map (λ named_image. named_image.name) (slice_get script.images image)) []
 
 -- the name of a user, by number
 abbrev pub user_name : Record → ℕ → List ℕ
-user_name run_record user = unwrap_or (option_map (λ of. of.name) (slice_get run_record.users user)) []
+user_name run_record user =
+    unwrap_or (option_map (λ user_record. user_record.name) (slice_get run_record.users user)) []
 
 -- an address, or an instruction word: 32 bits as eight hexadecimal digits
 abbrev pub word_text : ℕ → List ℕ

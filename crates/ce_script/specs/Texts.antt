@@ -16,26 +16,27 @@ use Rattle.ce_script.specs.EntryText.{entry_line}
 -- ---- the report
 
 -- a command and its reply, a line each
-abbrev pub done_text : Script → Record → Command × Answer → List ℕ
-done_text script run_record done =
-    line (command_words script done.0) ++ line (codes "=" ∷ reply_text run_record done.1 ∷ [])
+abbrev pub doing_text : Script → Record → Command × Answer → List ℕ
+doing_text script run_record doing =
+    line (command_words script doing.0) ++ line (codes "=" ∷ reply_text run_record doing.1 ∷ [])
 
 -- a user, and what it did
 abbrev pub user_text : Script → Record → UserRecord → List ℕ
 user_text script run_record user =
-    line (codes "user" ∷ user.name ∷ []) ++ flat_map (done_text script run_record) user.done
+    line (codes "user" ∷ user.name ∷ []) ++ flat_map (doing_text script run_record) user.done
 
 -- the head of a cube's section
 abbrev pub cube_line : Record → ℕ → CubeGrant → List ℕ
 cube_line run_record number grant =
-    line (codes "cube" ∷ decimal number ∷ codes "user" ∷ user_name run_record grant.user ∷ codes "dim"
+    line (codes "cube" ∷ decimal number ∷ codes "user" ∷ user_name run_record grant.user
+    ∷ codes "dim"
     ∷ decimal grant.dim ∷ subcube_words grant.sub)
 
 -- the section of a cube: whose it is and which nodes it is, and its trace
 abbrev pub cube_text : Script → Record → ℕ × CubeGrant → List ℕ
-cube_text script run_record numbered =
-    cube_line run_record numbered.0 numbered.1
-    ++ flat_map (entry_line script) (view run_record.history numbered.0)
+cube_text script run_record numbered_grant =
+    cube_line run_record numbered_grant.0 numbered_grant.1
+    ++ flat_map (entry_line script) (view run_record.history numbered_grant.0)
 
 -- the report; of a script without statements nothing is written
 unfoldable pub report : Script → Record → List ℕ
@@ -57,7 +58,8 @@ is_recv other = false
 abbrev pub received_text : Record → UserRecord → List ℕ
 received_text run_record user =
     unwrap_or
-    (option_map (λ done. reply_text run_record done.1) (find (λ done. is_recv done.0) user.done)) []
+    (option_map (λ doing. reply_text run_record doing.1)
+    (find (λ doing. is_recv doing.0) user.done)) []
 
 -- the summary of the load of this seed
 unfoldable pub summary : ℕ → Record → List ℕ

@@ -1,7 +1,7 @@
 -- What statements begin with, and what belongs behind it.
 use Rattle.std.specs.Prelude.{ℕ, Bool, true, false, List, [], ◌∷◌, Option, None, codes, map}
 use Rattle.std.specs.Option.{option_map_or}
-use Rattle.ce_text.specs.Table.{look_up}
+use Rattle.ce_text.specs.Table.{table_value}
 use Rattle.ce_model.specs.Limits.{greatest_dim, greatest_count}
 use Rattle.ce_script.specs.declared.grammar.Verb.{Verb}
 use Rattle.ce_script.specs.declared.grammar.Verb.TheVariants.{Machine, Image, User, Getcube, Peek, Freecube, Spawn, Kill, Send, Run, Recv, Dump, Trace}
@@ -50,7 +50,7 @@ verbs = map (λ verb. (verb_word verb, verb)) all_verbs
 -- what these words begin with, where it begins a statement
 unfoldable pub verb_of : List (List ℕ) → Option Verb
 verb_of [] = None
-verb_of (word ∷ words) = look_up verbs word
+verb_of (word ∷ words) = table_value verbs word
 
 -- ---- kinds of verbs
 
@@ -102,20 +102,20 @@ abbrev pub any_number : Operand
 any_number = Number greatest_number
 
 -- the words that belong behind a verb
-abbrev pub operands_of : Verb → List Operand
-operands_of Machine = Number greatest_dim ∷ []
-operands_of Image = NewImage ∷ Form ∷ []
-operands_of User = Name ∷ []
-operands_of Getcube = Number greatest_dim ∷ []
-operands_of Peek = []
-operands_of Freecube = []
-operands_of Spawn = OldImage ∷ any_number ∷ any_number ∷ []
-operands_of Kill = any_number ∷ any_number ∷ []
-operands_of Send = any_number ∷ any_number ∷ Data ∷ []
-operands_of Run = Number greatest_count ∷ []
-operands_of Recv = Number greatest_count ∷ []
-operands_of Dump = any_number ∷ any_number ∷ []
-operands_of Trace = []
+abbrev pub verb_operands : Verb → List Operand
+verb_operands Machine = Number greatest_dim ∷ []
+verb_operands Image = NewImage ∷ Form ∷ []
+verb_operands User = Name ∷ []
+verb_operands Getcube = Number greatest_dim ∷ []
+verb_operands Peek = []
+verb_operands Freecube = []
+verb_operands Spawn = OldImage ∷ any_number ∷ any_number ∷ []
+verb_operands Kill = any_number ∷ any_number ∷ []
+verb_operands Send = any_number ∷ any_number ∷ Data ∷ []
+verb_operands Run = Number greatest_count ∷ []
+verb_operands Recv = Number greatest_count ∷ []
+verb_operands Dump = any_number ∷ any_number ∷ []
+verb_operands Trace = []
 
 -- ---- forms of images
 
@@ -125,4 +125,4 @@ forms = (codes "hex", Hex) ∷ (codes "asm", Asm) ∷ (codes "rki", Rki) ∷ []
 
 -- the form that a word names
 unfoldable pub form_of : List ℕ → Option ImageForm
-form_of word = look_up forms word
+form_of word = table_value forms word

@@ -1,6 +1,6 @@
 //! The words of the language of scripts.
 ghost use Rattle.std.specs.Prelude.{◌≡◌, bytes_eq, find, length};
-ghost use Rattle.ce_text.specs.Table.{look_up};
+ghost use Rattle.ce_text.specs.Table.{table_value};
 ghost use Rattle.ce_script.specs.Verbs.{verbs, verb_word, form_of};
 
 use ce_text::look_up;
@@ -61,13 +61,13 @@ const FORMS: [(&str, ImageForm); 3] = [
 /// What a statement with this first word is.
 #[tactic(auto, using(crate::proofs::VerbWords::found_by_word), unfolding(crate::specs::Verbs::verbs))]
 pub fn verb_of(word: &[u8]) -> Option<Verb>
-    ensures { result ≡ look_up verbs word.now }
+    ensures { result ≡ table_value verbs word.now }
 {
-    verb_in(&VERBS, word)
+    verb_among(&VERBS, word)
 }
 
 /// The verb among these that has the word.
-fn verb_in(verbs: &[Verb], word: &[u8]) -> Option<Verb>
+fn verb_among(verbs: &[Verb], word: &[u8]) -> Option<Verb>
     ensures { result ≡ find (λ verb. bytes_eq (verb_word verb) word.now) verbs.now }
 {
     verbs
@@ -85,7 +85,7 @@ pub fn form_of(word: &[u8]) -> Option<ImageForm>
 }
 
 impl Verb {
-    ghost use Rattle.ce_script.specs.Verbs.{is_image, is_command, operands_of};
+    ghost use Rattle.ce_script.specs.Verbs.{is_image, is_command, verb_operands};
 
     /// Its word.
     pub fn word(self) -> &'static str
@@ -110,7 +110,7 @@ impl Verb {
 
     /// How many words belong behind it.
     pub fn operand_count(self) -> usize
-        ensures { result ≡ length (operands_of self) }
+        ensures { result ≡ length (verb_operands self) }
     {
         match self {
             Verb::Peek | Verb::Freecube | Verb::Trace => 0,

@@ -11,9 +11,9 @@ pub fn grammar_law()
     ensures exclusive { (text : List ℕ) (script : Script) → HasFault text → ¬ IsScript text script }
 {}
 
-/// A script's dimension and the numbers of its users and images are within a machine's limits. The names
-/// of its users all differ, and so do those of its images. Its commands speak of its users and images alone and keep the
-/// limits, and without a machine it says nothing.
+/// A script's dimension and the numbers of its users and images are within a machine's limits. The
+/// names of its users all differ, and so do those of its images. Its commands speak of its users
+/// and images alone and keep the limits, and without a machine it says nothing.
 pub fn limits_law()
     ensures { (text : List ℕ) (script : Script) → IsScript text script → IsWithinLimits script }
 {}

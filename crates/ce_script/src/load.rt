@@ -1,4 +1,5 @@
-//! The script of the load: four users, each with a ring of four processes that hand one message round.
+//! The script of the load: four users, each with a ring of four processes that hand one message
+//! round.
 ghost use Rattle.std.specs.Prelude.{◌≡◌, ◌<◌, ◌∷◌, [], ◌++◌, IfOk, OnOk, IsTrue, length, map, flat_map, codes};
 ghost use Rattle.std.specs.Int.{w32, to_le_bytes};
 ghost use Rattle.std.specs.String.{string_bytes};
@@ -17,8 +18,9 @@ use rv_image::Image;
 use sqlite_items::Items;
 use std::alloc::Global;
 
-/// The program of each process: it receives a block, adds its node's number and one to the block's first word, takes
-/// one from the second, and hands the block to the next node; at zero it hands it to the host.
+/// The program of each process: it receives a block, adds its node's number and one to the block's
+/// first word, takes one from the second, and hands the block to the next node; at zero it hands it
+/// to the host.
 const RING: &str = "loop: li a7, 7
       ecall
       mv s0, a0
@@ -67,7 +69,7 @@ const NUMBER_STEP: u32 = 1_013_904_223;
 /// The script of the load of a seed. `NoMemory` may come at any time.
 #[tactic(auto, using(crate::proofs::LoadWithin::load_within), unfolding(crate::specs::Load::load))]
 pub fn make(alloc: Global, seed: u32) -> Result<LimitedScript, NoMemory>
-    ensures { IfOk result (λ limited. limited.script ≡ load seed) }
+    ensures { IfOk result (λ limited_script. limited_script.script ≡ load seed) }
 {
     let script = Script {
         dim: Some(MACHINE_DIMENSION),

@@ -6,7 +6,8 @@ use ce_model::NoMemory;
 use std::alloc::Global;
 use std::marker::Model;
 
-/// A name of a user or an image: a letter and up to 15 letters, digits and `_`. Contracts see it as its bytes.
+/// A name of a user or an image: a letter and up to 15 letters, digits and `_`. Contracts see it as
+/// its bytes.
 #[derive(Debug, Drop)]
 pub struct Name {
     text: String,

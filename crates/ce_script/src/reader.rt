@@ -4,7 +4,7 @@ ghost use Rattle.ce_text.specs.declared.limits.TheConstants.{TEXT_LIMIT};
 ghost use Rattle.rv_model.specs.declared.memory.NoMemory.{NoMemory};
 ghost use Rattle.rv_asm.specs.declared.fault.AsmKind.TheVariants as kinds;
 ghost use Rattle.ce_script.specs.declared.script.ScriptKind.TheVariants.{Assembly};
-ghost use Rattle.ce_script.specs.Faults.{first_fault};
+ghost use Rattle.ce_script.specs.Faults.{first_script_fault};
 ghost use Rattle.ce_script.specs.Scripts.{IsScript, IsNoMemory};
 
 mod body;
@@ -21,13 +21,13 @@ use rest::Rest;
 use state::Reader;
 use std::alloc::Global;
 
-/// The script that a text says, or its first fault: statements are judged in order, each by its own line before its body.
-/// `Memory` may come at any line. There are fewer than `TEXT_LIMIT` bytes.
+/// The script that a text says, or its first fault: statements are judged in order, each by its own
+/// line before its body. `Memory` may come at any line. There are fewer than `TEXT_LIMIT` bytes.
 pub fn read_script(alloc: Global, bytes: &[u8]) -> Result<LimitedScript, ScriptFault>
     requires { length bytes.now < TEXT_LIMIT }
-    ensures script { IfOk result (λ limited. IsScript bytes.now limited.script) }
+    ensures script { IfOk result (λ limited_script. IsScript bytes.now limited_script.script) }
     ensures fault { IfErr result (λ fault. ¬ IsNoMemory fault.kind
-        → first_fault bytes.now ≡ Some fault) }
+        → first_script_fault bytes.now ≡ Some fault) }
     ensures told { IfErr result (λ fault. (want : NoMemory)
         → fault.kind ≢ Assembly (kinds.Memory want)) }
 {

@@ -23,24 +23,29 @@ pub struct NamedImage {
 /// What a script says: the machine, and what its users do with it.
 #[derive(Debug, Drop)]
 pub struct Script {
-    /// The machine's dimension, `GREATEST_DIMENSION` at most; none where the script has no statements.
+    /// The machine's dimension, `GREATEST_DIMENSION` at most; none where the script has no
+    /// statements.
     pub dim: Option<u32>,
-    /// The images, by number, in the script's order; `GREATEST_IMAGES` at most, each of another name.
+    /// The images, by number, in the script's order; `GREATEST_IMAGES` at most, each of another
+    /// name.
     pub images: Items<NamedImage>,
-    /// The users' names, by number, in the order in which the script first names them; `GREATEST_USERS` at most, all
-    /// different.
+    /// The users' names, by number, in the order in which the script first names them;
+    /// `GREATEST_USERS` at most, all different.
     pub users: Items<Name>,
     /// Each command with its user's number, in the script's order.
     pub commands: Items<(u32, Command)>,
 }
 
-/// What is wrong with a line of a script, in the order in which a line is judged: each kind is judged before the next,
-/// but that the operands are judged from left to right, each with all its kinds (from `BadNumber` to `UnknownImage`).
+/// What is wrong with a line of a script, in the order in which a line is judged: each kind is
+/// judged before the next, but that the operands are judged from left to right, each with all its
+/// kinds (from `BadNumber` to `UnknownImage`).
 #[derive(Clone, Copy, Debug, PartialEq, Eq)]
 pub enum ScriptKind {
-    /// A byte before any comment is neither a blank nor from 0x21 to 0x7E; also in a line of an image's body.
+    /// A byte before any comment is neither a blank nor from 0x21 to 0x7E; also in a line of an
+    /// image's body.
     BadByte,
-    /// The first word begins no statement, or an image has a form that is none of `hex`, `asm` and `rki`.
+    /// The first word begins no statement, or an image has a form that is none of `hex`, `asm` and
+    /// `rki`.
     UnknownWord,
     /// The statement has more or fewer words.
     WordCount,
@@ -50,12 +55,13 @@ pub enum ScriptKind {
     SecondMachine,
     /// A command comes before any `user`.
     NoUser,
-    /// A word is no number, or the number is too large where it stands: a dimension over `GREATEST_DIMENSION`, a count
-    /// over `GREATEST_COUNT`.
+    /// A word is no number, or the number is too large where it stands: a dimension over
+    /// `GREATEST_DIMENSION`, a count over `GREATEST_COUNT`.
     BadNumber,
     /// A word is no name.
     BadName,
-    /// The data of `send` is neither `-` nor pairs of hexadecimal digits, `BLOCK_ROOM` pairs at most.
+    /// The data of `send` is neither `-` nor pairs of hexadecimal digits, `BLOCK_ROOM` pairs at
+    /// most.
     BadHex,
     /// An earlier image has the name.
     NameTaken,
@@ -65,10 +71,11 @@ pub enum ScriptKind {
     UnknownImage,
     /// No `end` follows the line that begins an image.
     NoEnd,
-    /// The body of an image is refused by the assembler; the line is the image's and the fault's together.
+    /// The body of an image is refused by the assembler; the line is the image's and the fault's
+    /// together.
     Assembly(AsmKind),
-    /// A word of a `hex` or `rki` body is not as it must be, at the word's line; or the words give no image, at the
-    /// image's line.
+    /// A word of a `hex` or `rki` body is not as it must be, at the word's line; or the words give
+    /// no image, at the image's line.
     BadImage,
     /// Memory ran out, which may come at any line.
     Memory(NoMemory),
@@ -88,7 +95,7 @@ impl ScriptKind {
     ghost use Rattle.ce_script.specs.Bodies.{located_fault};
 
     /// As a fault of this line.
-    pub(crate) fn at(self, line: u32) -> ScriptFault
+    pub(crate) fn fault_of_line(self, line: u32) -> ScriptFault
         ensures { result ≡ located_fault line self }
     {
         ScriptFault { line, kind: self }

@@ -20,19 +20,21 @@ const INSTRUCTION_DIGITS: usize = 8;
 /// How many digits the bytes of a message have at most.
 const DATA_DIGITS: usize = 2 * BLOCK_ROOM as usize;
 
-/// The number that a word writes in 1 to `NUMBER_DIGITS` decimal digits, where it is at most `most`.
+/// The number that a word writes in 1 to `NUMBER_DIGITS` decimal digits, where it is at most
+/// `greatest`.
 #[tactic(auto, unfolding(crate::specs::Spellings::bounded_number))]
-pub fn number_to(word: &[u8], most: u32) -> Option<u32>
-    ensures { result ≡ bounded_number most word.now }
+pub fn number_to(word: &[u8], greatest: u32) -> Option<u32>
+    ensures { result ≡ bounded_number greatest word.now }
 {
     if word.len() > NUMBER_DIGITS {
         return None;
     }
-    let number = number_of_digits(word, 10, u64::from(most))?;
+    let number = number_of_digits(word, 10, u64::from(greatest))?;
     Some(number as u32)
 }
 
-/// Whether a word is a name: a letter, and letters, digits and `_` behind it, `NAME_ROOM` bytes at most.
+/// Whether a word is a name: a letter, and letters, digits and `_` behind it, `NAME_ROOM` bytes at
+/// most.
 #[tactic(auto, unfolding(crate::specs::Names::is_name, crate::specs::Names::name_room))]
 pub fn is_name(word: &[u8]) -> bool
     ensures { result ≡ is_name word.now }

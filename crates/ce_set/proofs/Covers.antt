@@ -7,7 +7,8 @@ use Rattle.std.proofs.Math.Nat.{add-div_right}
 use Rattle.ce_model.specs.Subcubes.{extracted_bits, deposited_bits, ones_of}
 use Rattle.ce_model.proofs.Subcubes.{by_low_bit, extracted-one, extracted-none, deposited-one, deposited-none, count_of-one, count_of-none}
 
--- n has a 0 at each of so many places of the mask, from a place on, and the test passes with each choice of bits there
+-- n has a 0 at each of so many places of the mask, from a place on, and the test passes with each
+-- choice of bits there
 abbrev pub covers : (bits place : ℕ) → (ℕ → Bool) → (mask n : ℕ) → Bool
 covers zero place test mask n = test n
 covers (suc bits) place test mask n =
@@ -21,7 +22,8 @@ reaches (suc bits) place mask base n =
     if mask % 2 == 1 then reaches bits (suc place) (mask / 2) base n || (nat_le (2 ^ place) n && reaches bits (suc place) (mask / 2) base (n - 2 ^ place))
     else reaches bits (suc place) (mask / 2) base n
 
--- a place at which the mask, of which `half` is what is left, has a one, and one at which it has none
+-- a place at which the mask, of which `half` is what is left, has a one, and one at which it has
+-- none
 pub covers-one : (bits place : ℕ) (test : ℕ → Bool) (mask half n : ℕ) → mask % 2 ≡ 1 → mask / 2 ≡ half
     → covers (suc bits) place test mask n ≡ (n / 2 ^ place % 2 == 0 && covers bits (suc place) test half n && covers bits (suc place) test half (n + 2 ^ place))
 covers-one bits place test mask half n one is_half = rw (one, is_half) refl
@@ -45,7 +47,8 @@ half_shifted n place = shr-shr n place 1 ∙ ap (λ k. n / 2 ^ k) (omega arith)
 twice : (place x y : ℕ) → 2 ^ place * (x + 2 * y) ≡ x * 2 ^ place + 2 ^ suc place * y
 twice place x y = rw pow-suc (omega arith)
 
--- a number that is put on the mask from a place on: where the mask has a one there, and where it has none
+-- a number that is put on the mask from a place on: where the mask has a one there, and where it
+-- has none
 placed-one : (bits place r mask : ℕ) → mask % 2 ≡ 1
     → 2 ^ place * deposited_bits (suc bits) r mask ≡ r % 2 * 2 ^ place + 2 ^ suc place * deposited_bits bits (r / 2) (mask / 2)
 placed-one bits place r mask one = ap (λ x. 2 ^ place * x) (deposited-one bits r mask one) ∙ twice place (r % 2) (deposited_bits bits (r / 2) (mask / 2))

@@ -1,6 +1,7 @@
 -- Sets of numbers as words of bits.
-use Rattle.std.specs.Prelude.{ℕ, ◌/◌, ◌%◌, ◌^◌, ◌==◌, Bool}
+use Rattle.std.specs.Prelude.{ℕ, Bool}
+use Rattle.ce_model.specs.Parcels.{is_member}
 
--- n is in the set that a word is
+-- the set that a word is has n
 abbrev pub has_bit : ℕ → ℕ → Bool
-has_bit word n = word / 2 ^ n % 2 == 1
+has_bit word n = is_member n word

@@ -1,4 +1,5 @@
-//! Sets of nodes and the subcubes of a machine: which nodes a subcube has, and the first subcube that is free.
+//! Sets of nodes and the subcubes of a machine: which nodes a subcube has, and the first subcube
+//! that is free.
 #![tactic(auto)]
 
 mod bits;

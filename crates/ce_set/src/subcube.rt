@@ -1,13 +1,13 @@
 ghost use Rattle.std.specs.Prelude.{◌≡◌, ℕ, ◌+◌, ◌/◌, ◌%◌, ◌^◌, ◌<◌, ◌≤◌, ◌==◌, ◌&&◌, find, IsTrue};
 ghost use Rattle.ce_model.specs.Limits.{greatest_dim};
-ghost use Rattle.ce_model.specs.Subcubes.{node_of, is_inside, is_base, has_node, ones_of, first_free, are_all_nodes, subcube, with_mask};
+ghost use Rattle.ce_model.specs.Subcubes.{node_of, is_inside, is_base, has_node, ones_of, first_free_subcube, are_all_nodes, subcube, subcubes_with_mask};
 ghost use Rattle.ce_set.specs.Words.{has_bit};
 
 use crate::deposit;
 use ce_model::{GREATEST_DIMENSION, NodeSet, Subcube};
 
-/// The node that the subcube has as its relative node `r`. The mask and the base are below 64 and have no bit in
-/// common, and r is below 2^d, where the mask has d one bits.
+/// The node that the subcube has as its relative node `r`. The mask and the base are below
+/// `GREATEST_NODES` and have no bit in common, and r is below 2^d, where the mask has d one bits.
 pub fn node_of(sub: &Subcube, r: u32) -> u32
     requires mask_within { sub.now.mask < 2 ^ greatest_dim }
     requires base_within { sub.now.base < 2 ^ greatest_dim }
@@ -18,7 +18,8 @@ pub fn node_of(sub: &Subcube, r: u32) -> u32
     sub.base + deposit(r, sub.mask)
 }
 
-/// The nodes of the subcube. The mask and the base are below 64 and have no bit in common.
+/// The nodes of the subcube. The mask and the base are below `GREATEST_NODES` and have no bit in
+/// common.
 pub fn nodes_of(sub: &Subcube) -> NodeSet
     requires mask_within { sub.now.mask < 2 ^ greatest_dim }
     requires base_within { sub.now.base < 2 ^ greatest_dim }
@@ -34,17 +35,17 @@ pub fn nodes_of(sub: &Subcube) -> NodeSet
     NodeSet(nodes)
 }
 
-/// The first subcube of dimension `d` whose nodes are all in the set, by rising mask and then by rising base;
-/// None exactly where there is none, so wherever d is more than the machine's dimension `dim`, which is at most 6.
-/// The set has nodes of the machine alone.
-pub fn first_free(free: NodeSet, dim: u32, d: u32) -> Option<Subcube>
+/// The first subcube of dimension `d` whose nodes are all in the set, by rising mask and then by
+/// rising base; None exactly where there is none, so wherever d is more than the machine's
+/// dimension `dim`, which is at most `GREATEST_DIMENSION`. The set has nodes of the machine alone.
+pub fn first_free(free_nodes: NodeSet, dim: u32, d: u32) -> Option<Subcube>
     requires dim_within { dim ≤ greatest_dim }
-    requires nodes_within { free.0 < 2 ^ 2 ^ dim }
-    ensures { result ≡ first_free (has_node free) dim d }
+    requires nodes_within { free_nodes.0 < 2 ^ 2 ^ dim }
+    ensures { result ≡ first_free_subcube (has_node free_nodes) dim d }
 {
     for mask in 0..1u32 << dim {
         if mask.count_ones() == d
-            && let Some(sub) = first_with(free, mask)
+            && let Some(sub) = first_with(free_nodes, mask)
         {
             return Some(sub);
         }
@@ -53,13 +54,13 @@ pub fn first_free(free: NodeSet, dim: u32, d: u32) -> Option<Subcube>
 }
 
 // The first subcube with this mask whose nodes are all in the set.
-fn first_with(free: NodeSet, mask: u32) -> Option<Subcube>
+fn first_with(free_nodes: NodeSet, mask: u32) -> Option<Subcube>
     requires { mask < 2 ^ greatest_dim }
-    ensures { (dim : ℕ) → free.0 < 2 ^ 2 ^ dim → result
-        ≡ find (are_all_nodes (has_node free) (ones_of greatest_dim mask))
-        (with_mask (2 ^ dim) mask) }
+    ensures { (dim : ℕ) → free_nodes.0 < 2 ^ 2 ^ dim → result
+        ≡ find (are_all_nodes (has_node free_nodes) (ones_of greatest_dim mask))
+        (subcubes_with_mask (2 ^ dim) mask) }
 {
-    let bases = bases_within(free.0, mask);
+    let bases = bases_within(free_nodes.0, mask);
     if bases == 0 {
         return None;
     }
@@ -84,7 +85,7 @@ fn bases_within(set: u64, mask: u32) -> u64
 }
 
 // For each place the numbers that have a 0 there.
-const CLEAR: [u64; 6] = [
+const CLEAR: [u64; GREATEST_DIMENSION as usize] = [
     0x5555_5555_5555_5555,
     0x3333_3333_3333_3333,
     0x0f0f_0f0f_0f0f_0f0f,

@@ -16,7 +16,7 @@ use Rattle.ce_model.specs.Owners.{IsBlockOf, holdings}
 use Rattle.ce_model.specs.Sound.{is_polling, IsSoundProcess, IsSoundNode, AreInOrder, IsSound}
 use Rattle.ce_solo.proofs.Counting.{hit, count, count-nil, count-cons, sum_run, sum_run-same, sum_run-zero, sum_run-at, all-from_names}
 use Rattle.ce_solo.proofs.Lists.{all-of_map}
-use Rattle.ce_solo.proofs.Totals.{HeldName, names, names-total, holders-total, at_node, at_node-is, total, total-is}
+use Rattle.ce_solo.proofs.Totals.{HeldName, names, names-total, holders-total, count_at_node, count_at_node-is, total, total-is}
 
 -- ---- the blocks of a home
 
@@ -119,12 +119,12 @@ module _ (cube : Cube) (of : IsCube cube) (id : BlockId) where
   abbrev n : ℕ
   n = 2 ^ cube.dim
 
-  at_home : (r : ℕ) → at_node id (opening cube) r ≡ count id (blocks_of_home r)
-  at_home r = omega (arith, at_node-is id (opening cube) r, ap (count id) (fresh_blocks r cube.dim (length cube.images)), count-nil id)
+  at_home : (r : ℕ) → count_at_node id (opening cube) r ≡ count id (blocks_of_home r)
+  at_home r = omega (arith, count_at_node-is id (opening cube) r, ap (count id) (fresh_blocks r cube.dim (length cube.images)), count-nil id)
 
   opening_total : total id cube.dim (opening cube) ≡ sum_run (λ r. count id (blocks_of_home r)) 0 n + count id (blocks_of_home host_home)
   opening_total =
-      omega (arith, total-is id cube.dim (opening cube), count-nil id, sum_run-same (at_node id (opening cube)) (λ r. count id (blocks_of_home r)) 0 n (λ r low high. at_home r))
+      omega (arith, total-is id cube.dim (opening cube), count-nil id, sum_run-same (count_at_node id (opening cube)) (λ r. count id (blocks_of_home r)) 0 n (λ r low high. at_home r))
 
   nodes_small : n ≤ host_home
   nodes_small =

@@ -2,7 +2,7 @@
 use Rattle.std.proofs.Common.{◌≡◌, ℕ, List, [], ◌∷◌, ◌++◌, Option, option_map, refl, ap, sym, ◌∙◌, subst, append_assoc, append-nil}
 use Rattle.ce_model.specs.declared.entry.Entry.{Entry}
 use Rattle.ce_model.specs.Lists.{EachAfter}
-use Rattle.ce_model.specs.Cube.{Cube, CubeState, IsCube, HostCall, state_after_trace, next_entry, entry_host_call, IsNext, IsAloneFrom}
+use Rattle.ce_model.specs.Cube.{Cube, CubeState, IsCube, Wish, state_after_trace, next_entry, entry_wish, IsNext, IsAloneFrom}
 use Rattle.ce_model.specs.Sound.{IsSound}
 use Rattle.ce_model.proofs.Walked.{kept_by_each, each_joined}
 use Rattle.ce_model.proofs.AloneByEntries.{alone_by_entries, entries_of_alone}
@@ -11,18 +11,18 @@ use Rattle.ce_solo.proofs.Made.{call_in}
 use Rattle.ce_solo.proofs.Stands.{IsSoundTrace, entry_of-next, left-made, stands-made, stands-nil, stands-each, state_after_trace-nil}
 
 -- the entry that an actor makes next in a state
-abbrev next_in : Cube → CubeState → ℕ → Option HostCall → Option Entry
+abbrev next_in : Cube → CubeState → ℕ → Option Wish → Option Entry
 next_in cube s actor wish = option_map (entry_in cube s actor) (call_in cube s actor wish)
 
-next-is : (cube : Cube) (o : CubeState) (t : List Entry) (actor : ℕ) (wish : Option HostCall) → next_entry cube o t actor wish ≡ next_in cube (state_after_trace cube o t) actor wish
+next-is : (cube : Cube) (o : CubeState) (t : List Entry) (actor : ℕ) (wish : Option Wish) → next_entry cube o t actor wish ≡ next_in cube (state_after_trace cube o t) actor wish
 unfolding next_entry
 next-is cube o t actor wish = refl
 
 -- the next entry hangs on what the trace leaves alone
 pub next-same : (cube : Cube) (o o' : CubeState) (t t' : List Entry) (entry : Entry) → state_after_trace cube o t ≡ state_after_trace cube o' t' → IsNext cube o t entry → IsNext cube o' t' entry
 next-same cube o o' t t' entry same next =
-    next-is cube o' t' entry.actor (entry_host_call entry) ∙ ap (λ s. next_in cube s entry.actor (entry_host_call entry)) (sym same)
-    ∙ sym (next-is cube o t entry.actor (entry_host_call entry)) ∙ next
+    next-is cube o' t' entry.actor (entry_wish entry) ∙ ap (λ s. next_in cube s entry.actor (entry_wish entry)) (sym same)
+    ∙ sym (next-is cube o t entry.actor (entry_wish entry)) ∙ next
 
 -- the second part so far: from what the first left, and behind the first
 record IsCut (cube : Cube) (o : CubeState) (t s : List Entry) : Type 0 where

@@ -8,10 +8,10 @@ use Rattle.ce_model.specs.declared.entry.What.TheVariants.{Take}
 use Rattle.ce_model.specs.declared.entry.TakeResult.TheVariants.{Mail}
 use Rattle.ce_model.specs.Parcels.{Parcel, Item, start, mail, kill, is_member, is_eligible}
 use Rattle.ce_model.specs.Process.{Process, unborn_process, is_stopped}
-use Rattle.ce_model.specs.Node.{Node, process_at, Call, take_call, send_call, spawn_call, kill_call, note_call, arm_call, look_call, mail_call, process_set, take_of}
+use Rattle.ce_model.specs.Node.{Node, process_at, Call, take_call, send_call, spawn_call, kill_call, note_call, arm_call, look_call, mail_call, process_set, take_call_of}
 use Rattle.ce_model.specs.Answers.{offer_of, is_used_up, answer}
 use Rattle.ce_model.specs.Saying.{says}
-use Rattle.ce_model.specs.Cube.{Cube, CubeState, IsCube, node_numbers, HostCall}
+use Rattle.ce_model.specs.Cube.{Cube, CubeState, IsCube, node_numbers, Wish}
 use Rattle.ce_model.specs.Sound.{IsSound}
 use Rattle.ce_solo.proofs.Words.{HasMadeCall}
 use Rattle.ce_solo.proofs.Sending.{not_host}
@@ -94,7 +94,7 @@ module _ (cube : Cube) (s : CubeState) (of : IsCube cube) (sound : IsSound cube 
   taken-by look_call says e = absurd (cc)
   taken-by mail_call says e = absurd (cc)
 
-  made-taken : (actor : ℕ) (wish : Option HostCall) (call : Call) → actor ≡ r → IsMadeCall cube s actor wish call
+  made-taken : (actor : ℕ) (wish : Option Wish) (call : Call) → actor ≡ r → IsMadeCall cube s actor wish call
       → answer (node_numbers cube.dim) s.standing r call ≡ Take asking dead poller (Mail pid number) → IsMailTaken cube s r asking dead pid number
   made-taken actor wish call same (by_host is e) what = absurd (omega (arith, not_host cube r of below))
   made-taken actor wish call same (by_node low e) what = taken-by call (ap (λ q. (says (s.node q)).call) (sym same) ∙ e) what
@@ -106,7 +106,7 @@ module _ (cube : Cube) (s : CubeState) (of : IsCube cube) (sound : IsSound cube 
       (ap (λ q. answer (node_numbers cube.dim) s.standing q e.call) (sym actor) ∙ ap (λ (entry : Entry). entry.what) (sym e.is))
 
 -- the masks of a Take are of its node
-pub dead-of : (node : Node) (asking dead pid : ℕ) (poller : Option ℕ) → take_call asking dead poller ≡ take_of node → is_member pid dead ≡ true → is_stopped (process_at node pid).status ≡ true
+pub dead-of : (node : Node) (asking dead pid : ℕ) (poller : Option ℕ) → take_call asking dead poller ≡ take_call_of node → is_member pid dead ≡ true → is_stopped (process_at node pid).status ≡ true
 dead-of node asking dead pid poller same h =
     let is : dead ≡ process_set is_stopped node.processes = cc in
     member-of is_stopped node.processes pid (ap (is_member pid) (sym is) ∙ h)

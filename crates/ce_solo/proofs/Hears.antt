@@ -13,8 +13,8 @@ use Rattle.ce_model.specs.Blocks.{with_id}
 use Rattle.ce_model.specs.Parcels.{Parcel}
 use Rattle.ce_model.specs.Space.{window_start, has_unused_window, mapped_space, mapped_ids}
 use Rattle.ce_model.specs.Process.{Process, started_process, with_answer, unborn_process, is_receiving, is_stopped}
-use Rattle.ce_model.specs.Node.{Turn, Node, process_at, with_process, without_poller, with_stopped, blocks_of}
-use Rattle.ce_model.specs.Hearing.{start_of, mail_of, kill_of, poll_of, answer_of, nothing, image_at, with_turn, with_answered_turn, with_stored, with_received, with_answered_call, node_after_hearing}
+use Rattle.ce_model.specs.Node.{Turn, Node, process_at, with_process, without_poller, with_stopped_process, blocks_of}
+use Rattle.ce_model.specs.Hearing.{start_of, mail_of, kill_of, poll_of, answer_of, nothing, image_at, with_turn, with_answered_turn, with_stored_parcel, with_received_parcel, with_answered_call, node_after_hearing}
 use Rattle.ce_model.specs.Sound.{is_unborn, IsSoundTurn}
 use Rattle.ce_solo.proofs.Counting.{hit-self, count, count-nil, count-one, count-append, count-put, rising-put}
 use Rattle.ce_solo.proofs.Windows.{same_held, ids-mapped}
@@ -47,7 +47,7 @@ pub new_turn-sound : (pid : ℕ) → pid < process_count → IsSoundTurn (new_tu
 new_turn-sound pid within = record { pid = within; instructions_left = omega arith; calls = omega arith }
 
 -- a turn begins in a node without one
-begins-change : (node : Node) (pid : ℕ) (p : Process) (come : List BlockId) → IsWell None node → pid < process_count → length p.regs ≡ REGISTER_COUNT
+begins-change : (node : Node) (pid : ℕ) (p : Process) (come : List BlockId) → IsWell None node → pid < process_count → length p.registers ≡ REGISTER_COUNT
     → length p.space.windows ≤ window_count
     → ((id : BlockId) → count id (mapped_ids p.space) ≡ count id (mapped_ids (process_at node pid).space) + count id come)
     → ((id : BlockId) → count id (blocks_of node) + count id come ≤ 1)
@@ -70,7 +70,7 @@ begins-change node pid p come well within registers windows blocks once = record
   once = once;
 }
 
-begins-hears : (node : Node) (pid : ℕ) (p : Process) (come : List BlockId) → IsWell None node → pid < process_count → length p.regs ≡ REGISTER_COUNT
+begins-hears : (node : Node) (pid : ℕ) (p : Process) (come : List BlockId) → IsWell None node → pid < process_count → length p.registers ≡ REGISTER_COUNT
     → length p.space.windows ≤ window_count → is_unborn (process_at node pid).status ≡ false → is_stopped (process_at node pid).status ≡ false
     → ((id : BlockId) → count id (mapped_ids p.space) ≡ count id (mapped_ids (process_at node pid).space) + count id come)
     → ((id : BlockId) → count id (blocks_of node) + count id come ≤ 1)
@@ -93,10 +93,10 @@ receiving_is (Stopped cause) h = absurd (both_ways _ refl h)
 
 stored-hears : (node : Node) (parcel : Parcel) → IsWell None node → node.turn ≡ None
     → ((id : BlockId) → count id (blocks_of node) + count id (parcel.block.id ∷ []) ≤ 1)
-    → HasBecome None node (with_stored node parcel) (parcel.block.id ∷ []) []
+    → HasBecome None node (with_stored_parcel node parcel) (parcel.block.id ∷ []) []
 stored-hears node parcel well none once =
     let others = flat_map (λ (q : Process). mapped_ids q.space) node.processes in
-    let blocks : (id : BlockId) → count id (blocks_of (with_stored node parcel)) ≡ count id (blocks_of node) + count id (parcel.block.id ∷ []) =
+    let blocks : (id : BlockId) → count id (blocks_of (with_stored_parcel node parcel)) ≡ count id (blocks_of node) + count id (parcel.block.id ∷ []) =
     λ id. omega (arith, count-append id (with_id parcel.block.id node.store) others, count-append id node.store others, count-put id parcel.block.id node.store, count-one id parcel.block.id) in
     record {
       number = refl;
@@ -118,7 +118,7 @@ stored-hears node parcel well none once =
 
 gets-hears : (node : Node) (parcel : Parcel) → IsWell None node → node.turn ≡ None → parcel.to.pid < process_count
     → ((id : BlockId) → count id (blocks_of node) + count id (parcel.block.id ∷ []) ≤ 1)
-    → is_receiving (process_at node parcel.to.pid).status ≡ true → HasHeardAnswer node (with_received node parcel (process_at node parcel.to.pid)) (parcel.block.id ∷ [])
+    → is_receiving (process_at node parcel.to.pid).status ≡ true → HasHeardAnswer node (with_received_parcel node parcel (process_at node parcel.to.pid)) (parcel.block.id ∷ [])
 gets-hears node parcel well none within once receives =
     let pid = parcel.to.pid in
     let p = process_at node pid in
@@ -126,17 +126,17 @@ gets-hears node parcel well none within once receives =
     let of = well.processes pid within in
     cond_both (has_unused_window p.space)
     (with_answered_turn node pid (record p { space = mapped_space parcel.block p.space }) (window_start (length p.space.windows)))
-    (with_stopped (with_stored node parcel) pid p WindowsSpent) (λ node'. HasHeardAnswer node node' (parcel.block.id ∷ []))
+    (with_stopped_process (with_stored_parcel node parcel) pid p WindowsSpent) (λ node'. HasHeardAnswer node node' (parcel.block.id ∷ []))
     (λ room.
     begins-hears node pid (with_answer (window_start (length p.space.windows)) (record p { space = mapped_space parcel.block p.space })) (parcel.block.id ∷ []) well within
-    (length-set p.regs 10 (window_start (length p.space.windows)) ∙ of.registers)
+    (length-set p.registers 10 (window_start (length p.space.windows)) ∙ of.registers)
     (omega (arith, ltb-true _ _ room, length-append p.space.windows (Some parcel.block ∷ []))) is.0 is.1
     (λ id. omega (arith, ap (count id) (ids-mapped parcel.block p.space), count-append id (mapped_ids p.space) (parcel.block.id ∷ []))) once)
     (λ full.
     let stored = stored-hears node parcel well none once in
     record {
       became = became-then stored
-          (stop-became None (with_stored node parcel) pid p WindowsSpent stored.well within of.registers of.windows (same_held p.space) (λ q differ. refl) is.0);
+          (stop-became None (with_stored_parcel node parcel) pid p WindowsSpent stored.well within of.registers of.windows (same_held p.space) (λ q differ. refl) is.0);
       turn = tt;
     })
 
@@ -144,10 +144,10 @@ pub mail-hears : (images : List ImageParts) (node : Node) (parcel : Parcel) → 
     → ((id : BlockId) → count id (blocks_of node) + count id (parcel.block.id ∷ []) ≤ 1) → HasHeardAnswer node (node_after_hearing images node (mail_of parcel)) (parcel.block.id ∷ [])
 unfolding node_after_hearing
 mail-hears images node parcel well none within once =
-    cond_both (is_receiving (process_at node parcel.to.pid).status) (with_received node parcel (process_at node parcel.to.pid)) (with_stored node parcel)
+    cond_both (is_receiving (process_at node parcel.to.pid).status) (with_received_parcel node parcel (process_at node parcel.to.pid)) (with_stored_parcel node parcel)
     (λ node'. HasHeardAnswer node node' (parcel.block.id ∷ [])) (gets-hears node parcel well none within once)
     (λ f. record {
-      became = subst (λ turn. HasBecome turn node (with_stored node parcel) (parcel.block.id ∷ []) []) (sym none) (stored-hears node parcel well none once);
+      became = subst (λ turn. HasBecome turn node (with_stored_parcel node parcel) (parcel.block.id ∷ []) []) (sym none) (stored-hears node parcel well none once);
       turn = subst (λ turn. IfSome turn IsSoundTurn) (sym none) tt;
     })
 
@@ -168,7 +168,7 @@ pub kill-hears : (images : List ImageParts) (node : Node) (pid : ℕ) → IsWell
 unfolding node_after_hearing
 kill-hears images node pid well none within born =
     let of = well.processes pid within in
-    cond_both (is_stopped (process_at node pid).status) node (with_stopped node pid (process_at node pid) Killed) (λ node'. HasHeardAnswer node node' [])
+    cond_both (is_stopped (process_at node pid).status) node (with_stopped_process node pid (process_at node pid) Killed) (λ node'. HasHeardAnswer node node' [])
     (λ t. none-hears node well none)
     (λ f. record {
       became = stop-became None node pid (process_at node pid) Killed well within of.registers of.windows (same_held (process_at node pid).space) (λ q differ. refl) born;
@@ -180,7 +180,7 @@ pub poll-hears : (images : List ImageParts) (node : Node) (pid : ℕ) → IsWell
 unfolding node_after_hearing
 poll-hears images node pid well within born going =
     let of = well.processes pid within in
-    begins-hears node pid (with_answer 0 (process_at node pid)) [] well within (length-set (process_at node pid).regs 10 0 ∙ of.registers) of.windows born going
+    begins-hears node pid (with_answer 0 (process_at node pid)) [] well within (length-set (process_at node pid).registers 10 0 ∙ of.registers) of.windows born going
     (λ id. omega (arith, count-nil id)) (λ id. omega (arith, well.once id, count-nil id))
 
 told-in : (node : Node) (value : ℕ) (turn : Option Turn) → node.turn ≡ turn → IsWell turn node → IfSome turn IsSoundTurn → HasHeardAnswer node (with_answered_call value node turn) []
@@ -190,7 +190,7 @@ told-in node value (Some turn) is well sound =
     let c = now_in_turn node turn well sound in
     record {
       became = subst (λ now. HasBecome now node (with_process node turn.pid (with_answer value p)) [] []) (sym is)
-          (runs-became node turn p c turn node.turn (with_answer value p) node.store [] refl refl (length-set p.regs 10 value ∙ c.registers)
+          (runs-became node turn p c turn node.turn (with_answer value p) node.store [] refl refl (length-set p.registers 10 value ∙ c.registers)
           (in_turn-windows node turn p c) well.store (λ id. omega (arith, count-nil id)));
       turn = subst (λ now. IfSome now IsSoundTurn) (sym is) sound;
     }

@@ -10,23 +10,23 @@ use Rattle.ce_model.specs.declared.entry.What.{What}
 use Rattle.ce_model.specs.declared.entry.What.TheVariants.{Arm, Look, HostTake, Send, Spawn, Kill}
 use Rattle.ce_model.specs.declared.entry.LookResult.{LookResult}
 use Rattle.ce_model.specs.declared.entry.TakeResult.TheVariants.{Mail}
-use Rattle.ce_model.specs.declared.entry.KillFound.{KillFound}
-use Rattle.ce_model.specs.declared.entry.KillFound.TheVariants.{Killed, Unused, Already}
+use Rattle.ce_model.specs.declared.entry.KillResult.{KillResult}
+use Rattle.ce_model.specs.declared.entry.KillResult.TheVariants.{Killed, Unused, Already}
 use Rattle.ce_model.specs.Blocks.{without_id, with_id}
 use Rattle.ce_model.specs.Parcels.{Parcel, Item, start, mail, kill, is_named_by, parcel_in, message_parcels}
 use Rattle.ce_model.specs.Node.{is_place, Call, send_call, spawn_call, kill_call, arm_call, look_call, mail_call}
 use Rattle.ce_model.specs.Trace.{NodeRecord, made_dispatches_after, allowed_dispatches_after}
-use Rattle.ce_model.specs.Answers.{is_among, kill_found, first_number, look_result_where, is_quiet, is_used_up, answer}
-use Rattle.ce_model.specs.Cube.{Cube, CubeState, IsCube, node_numbers, HostCall, send_bytes, start_image, end_process, allow, look_round, take_message, host_call, store_after, with_parcel, parcel_numbered}
+use Rattle.ce_model.specs.Answers.{is_among, kill_result, first_number, look_result_where, is_quiet, is_used_up, answer}
+use Rattle.ce_model.specs.Cube.{Cube, CubeState, IsCube, node_numbers, Wish, send_wish, spawn_wish, kill_wish, arm_wish, look_wish, mail_wish, call_of_wish, store_after, with_parcel, parcel_numbered}
 use Rattle.ce_model.specs.Sound.{IsHostItem, IsSoundHost, IsSound, AreInOrder}
 use Rattle.ce_solo.proofs.Counting.{hit, hit-self, count, count-nil, count-one, count-cons, count-append, count-put, rising-put, same_id-self, sum_run-zero}
-use Rattle.ce_solo.proofs.Lists.{all-filter, appended, appended-is, find-out}
+use Rattle.ce_solo.proofs.Lists.{all-filter, with_appended, with_appended-is, find-out}
 use Rattle.ce_solo.proofs.Items.{parcel_ids, ids-append, all_numbers-filter, rising-filter, named-mail}
-use Rattle.ce_solo.proofs.Records.{HasStayedSound, kept_with, keeps-same, keeps-mails, mails-ids}
+use Rattle.ce_solo.proofs.Records.{HasStayedSound, record_with, keeps-same, keeps-mails, mails-ids}
 use Rattle.ce_solo.proofs.Totals.{total-is, total-le}
-use Rattle.ce_solo.proofs.Sending.{not_host, place_parts, sent_ids, to_node, are_sent, sent-new, sent-host, sent-sum, start-keeps, kill-keeps}
-use Rattle.ce_solo.proofs.Entries.{record_by, state_after, entry_in}
-use Rattle.ce_solo.proofs.Acts.{idle-goes, sent_by, host-acts}
+use Rattle.ce_solo.proofs.Sending.{not_host, place_parts, sent_ids, node_parcels, are_sent, sent-new, sent-host, sent-sum, start-keeps, kill-keeps}
+use Rattle.ce_solo.proofs.Entries.{cube_record_after, state_after, entry_in}
+use Rattle.ce_solo.proofs.Acts.{idle-goes, parcel_count_after, host-acts}
 use Rattle.ce_solo.proofs.NodeEntries.{host-more, kill_accepted}
 
 without_first-name : (id : BlockId) (rest : List BlockId) → without_id id (id ∷ rest) ≡ rest
@@ -40,20 +40,20 @@ module _ (cube : Cube) (s : CubeState) (of : IsCube cube) (sound : IsSound cube 
   entry_of what = record { user = cube.user; actor = HOST; what = what }
 
   -- an entry that moves no block
-  quiet-host : (what : What) → ((q : ℕ) → q < 2 ^ cube.dim → HasStayedSound cube (sent_by s HOST what) q (kept_at q) (record_by false q (entry_of what) (kept_at q)) [] [])
-      → (record_by true HOST (entry_of what) (kept_at HOST)).waiting_items ≡ (kept_at HOST).waiting_items → store_after (kept_at HOST).waiting_items s.hoststore what ≡ s.hoststore
+  quiet-host : (what : What) → ((q : ℕ) → q < 2 ^ cube.dim → HasStayedSound cube (parcel_count_after s HOST what) q (kept_at q) (cube_record_after false q (entry_of what) (kept_at q)) [] [])
+      → (cube_record_after true HOST (entry_of what) (kept_at HOST)).waiting_items ≡ (kept_at HOST).waiting_items → store_after (kept_at HOST).waiting_items s.hoststore what ≡ s.hoststore
       → made_dispatches_after s.standing.made_dispatches what ≤ allowed_dispatches_after s.standing.allowed_dispatches what → IsSound cube (state_after cube s (entry_of what))
   quiet-host what keeps no_mail store dispatches =
       host-acts cube s what (λ id q. count id []) of sound (record {
-        nodes = λ q within. idle-goes cube (sent_by s HOST what) q (kept_at q) (record_by false q (entry_of what) (kept_at q)) (s.node q) [] (λ id. 0) (sound.nodes q within) (λ id. refl) (keeps q within);
-        host = subst (IsSoundHost (sent_by s HOST what)) (sym no_mail) (host-more s.standing.parcel_count (sent_by s HOST what) (kept_at HOST).waiting_items (omega arith) sound.host);
+        nodes = λ q within. idle-goes cube (parcel_count_after s HOST what) q (kept_at q) (cube_record_after false q (entry_of what) (kept_at q)) (s.node q) [] (λ id. 0) (sound.nodes q within) (λ id. refl) (keeps q within);
+        host = subst (IsSoundHost (parcel_count_after s HOST what)) (sym no_mail) (host-more s.standing.parcel_count (parcel_count_after s HOST what) (kept_at HOST).waiting_items (omega arith) sound.host);
         store = subst AreInOrder (sym store) sound.hoststore;
         balance = λ id. omega (arith, ap (λ items. count id (parcel_ids items)) no_mail, ap (count id) store, sum_run-zero (λ q. count id []) 0 (2 ^ cube.dim) (λ k low high. count-nil id));
         dispatches = dispatches;
       })
 
   plain_keeps : (q : ℕ) → q < 2 ^ cube.dim
-      → HasStayedSound cube (s.standing.parcel_count + 0) q (kept_at q) (kept_with (kept_at q).waiting_items (kept_at q).spawned_ids (kept_at q).killed_ids (kept_at q).mark) [] []
+      → HasStayedSound cube (s.standing.parcel_count + 0) q (kept_at q) (record_with (kept_at q).waiting_items (kept_at q).spawned_ids (kept_at q).killed_ids (kept_at q).mark) [] []
   plain_keeps q within = keeps-same cube s.standing.parcel_count (s.standing.parcel_count + 0) q (kept_at q) (kept_at q).mark (omega arith) (sound.records q within)
 
   arm-host : (allowed : ℕ) → IsSound cube (state_after cube s (entry_of (Arm allowed)))
@@ -70,10 +70,10 @@ module _ (cube : Cube) (s : CubeState) (of : IsCube cube) (sound : IsSound cube 
       quiet-host (Spawn 0 image to true)
       (λ q within. start-keeps cube s.standing.parcel_count q image to (kept_at q) (kept_at q).mark (to.node == q) (sound.records q within)
       (λ t. subst (λ q. is_among to.pid (kept_at q).spawned_ids ≡ false) (eqb-true to.node q t) (not-true _ e)) parts.1 of_cube)
-      (ap (λ b. appended (kept_at HOST).waiting_items ((if b then start to.pid image ∷ [] else []) ++ [])) (ne_eqb to.node HOST (λ e. omega (arith, not_host cube to.node of parts.0))))
+      (ap (λ b. with_appended (kept_at HOST).waiting_items ((if b then start to.pid image ∷ [] else []) ++ [])) (ne_eqb to.node HOST (λ e. omega (arith, not_host cube to.node of parts.0))))
       refl sound.dispatches
 
-  kill-host : (to : Place) (found : KillFound) → kill_found (kept_at to.node) to.pid ≡ found → is_place cube.dim to ≡ true
+  kill-host : (to : Place) (found : KillResult) → kill_result (kept_at to.node) to.pid ≡ found → is_place cube.dim to ≡ true
       → IsSound cube (state_after cube s (entry_of (Kill 0 to found)))
   kill-host to Unused e place = quiet-host (Kill 0 to Unused) plain_keeps refl refl sound.dispatches
   kill-host to Already e place = quiet-host (Kill 0 to Already) plain_keeps refl refl sound.dispatches
@@ -84,7 +84,7 @@ module _ (cube : Cube) (s : CubeState) (of : IsCube cube) (sound : IsSound cube 
       (λ q within. kill-keeps cube s.standing.parcel_count q to (kept_at q) (kept_at q).mark (to.node == q) (sound.records q within)
       (λ t. subst (λ q. is_among to.pid (kept_at q).spawned_ids ≡ true) (eqb-true to.node q t) found.0)
       (λ t. subst (λ q. is_among to.pid (kept_at q).killed_ids ≡ false) (eqb-true to.node q t) found.1))
-      (ap (λ b. appended (kept_at HOST).waiting_items ((if b then kill to.pid ∷ [] else []) ++ [])) (ne_eqb to.node HOST (λ e. omega (arith, not_host cube to.node of parts.0))))
+      (ap (λ b. with_appended (kept_at HOST).waiting_items ((if b then kill to.pid ∷ [] else []) ++ [])) (ne_eqb to.node HOST (λ e. omega (arith, not_host cube to.node of parts.0))))
       refl sound.dispatches
 
   send-host : (to : Place) (id : BlockId) (rest : List BlockId) (bytes : List ℕ) → is_place cube.dim to ≡ true → s.hoststore ≡ id ∷ rest
@@ -97,10 +97,10 @@ module _ (cube : Cube) (s : CubeState) (of : IsCube cube) (sound : IsSound cube 
       let sent' = s.standing.parcel_count + length ps in
       let are = are_sent cube from s.standing.parcel_count bytes targets (inl place, tt) in
       let left : store_after (kept_at HOST).waiting_items s.hoststore what ≡ rest = ap (without_id id) store ∙ without_first-name id rest in
-      host-acts cube s what (λ name q. count name (sent_ids (to_node q ps))) of sound (record {
+      host-acts cube s what (λ name q. count name (sent_ids (node_parcels q ps))) of sound (record {
         nodes = λ q within.
-            idle-goes cube sent' q (kept_at q) (record_by false q (entry_of what) (kept_at q)) (s.node q) (sent_ids (to_node q ps)) (λ name. 0) (sound.nodes q within) (λ name. refl)
-            (keeps-mails cube s.standing.parcel_count sent' q (kept_at q) (kept_at q).mark (to_node q ps) are.more (sound.records q within) (sent-new cube s.standing.parcel_count sent' ps of are q within));
+            idle-goes cube sent' q (kept_at q) (cube_record_after false q (entry_of what) (kept_at q)) (s.node q) (sent_ids (node_parcels q ps)) (λ name. 0) (sound.nodes q within) (λ name. refl)
+            (keeps-mails cube s.standing.parcel_count sent' q (kept_at q) (kept_at q).mark (node_parcels q ps) are.more (sound.records q within) (sent-new cube s.standing.parcel_count sent' ps of are q within));
         host = sent-host cube s.standing.parcel_count sent' ps of are (kept_at HOST).waiting_items sound.host;
         store = subst AreInOrder (sym left) (subst AreInOrder store sound.hoststore).1;
         balance = λ name.
@@ -111,9 +111,9 @@ module _ (cube : Cube) (s : CubeState) (of : IsCube cube) (sound : IsSound cube 
               ap (count name) store,
               count-cons name id rest,
               count-one name id,
-              ap (λ items. count name (parcel_ids items)) (appended-is (kept_at HOST).waiting_items (map mail (to_node HOST ps))),
-              ap (count name) (mails-ids (kept_at HOST).waiting_items (to_node HOST ps)),
-              count-append name (parcel_ids (kept_at HOST).waiting_items) (sent_ids (to_node HOST ps)),
+              ap (λ items. count name (parcel_ids items)) (with_appended-is (kept_at HOST).waiting_items (map mail (node_parcels HOST ps))),
+              ap (count name) (mails-ids (kept_at HOST).waiting_items (node_parcels HOST ps)),
+              count-append name (parcel_ids (kept_at HOST).waiting_items) (sent_ids (node_parcels HOST ps)),
             );
         dispatches = sound.dispatches;
       })
@@ -143,7 +143,7 @@ module _ (cube : Cube) (s : CubeState) (of : IsCube cube) (sound : IsSound cube 
       ) in
       host-acts cube s what (λ id q. count id []) of sound (record {
         nodes = λ q within.
-            idle-goes cube (s.standing.parcel_count + 0) q (kept_at q) (record_by false q (entry_of what) (kept_at q)) (s.node q) [] (λ id. 0) (sound.nodes q within) (λ id. refl) (plain_keeps q within);
+            idle-goes cube (s.standing.parcel_count + 0) q (kept_at q) (cube_record_after false q (entry_of what) (kept_at q)) (s.node q) [] (λ id. 0) (sound.nodes q within) (λ id. refl) (plain_keeps q within);
         host = host-more s.standing.parcel_count (s.standing.parcel_count + 0) (filter test items) (omega arith)
             (record {
               numbered = record {
@@ -182,24 +182,24 @@ module _ (cube : Cube) (s : CubeState) (of : IsCube cube) (sound : IsSound cube 
   some_call : (x call : Call) → Some x ≡ Some call → x ≡ call
   some_call x call e = cc
 
-  pub host-entry : (wish : HostCall) (call : Call) → host_call cube s.hoststore wish ≡ Some call → IsSound cube (state_after cube s (entry_in cube s HOST call))
+  pub host-entry : (wish : Wish) (call : Call) → call_of_wish cube s.hoststore wish ≡ Some call → IsSound cube (state_after cube s (entry_in cube s HOST call))
   unfolding answer
-  host-entry (send_bytes to bytes) call e =
+  host-entry (send_wish to bytes) call e =
       let parts = chosen_call (is_place cube.dim to) (option_map (λ id. send_call 0 ((to, id) ∷ []) bytes) (slice_get s.hoststore 0)) call e in
       first_sent s.hoststore to bytes call refl parts.0 parts.1
-  host-entry (start_image image to) call e =
+  host-entry (spawn_wish image to) call e =
       let parts = chosen_call (is_place cube.dim to && nat_lt image (length cube.images)) (Some (spawn_call 0 image to)) call e in
       let fits = and_parts (is_place cube.dim to) (nat_lt image (length cube.images)) parts.0 in
       subst (λ call. IsSound cube (state_after cube s (entry_in cube s HOST call))) (some_call (spawn_call 0 image to) call parts.1)
       (spawn-host image to (not (is_among to.pid (kept_at to.node).spawned_ids)) refl fits.0 (ltb-true _ _ fits.1))
-  host-entry (end_process to) call e =
+  host-entry (kill_wish to) call e =
       let parts = chosen_call (is_place cube.dim to) (Some (kill_call 0 to)) call e in
       subst (λ call. IsSound cube (state_after cube s (entry_in cube s HOST call))) (some_call (kill_call 0 to) call parts.1)
-      (kill-host to (kill_found (kept_at to.node) to.pid) refl parts.0)
-  host-entry (allow count) call e =
+      (kill-host to (kill_result (kept_at to.node) to.pid) refl parts.0)
+  host-entry (arm_wish count) call e =
       subst (λ call. IsSound cube (state_after cube s (entry_in cube s HOST call))) (some_call (arm_call count) call e) (arm-host count)
-  host-entry look_round call e =
+  host-entry look_wish call e =
       subst (λ call. IsSound cube (state_after cube s (entry_in cube s HOST call))) (some_call look_call call e) (look-host (look_result_where (is_quiet (node_numbers cube.dim) s.standing) (is_used_up s.standing)))
-  host-entry take_message call e =
+  host-entry mail_wish call e =
       subst (λ call. IsSound cube (state_after cube s (entry_in cube s HOST call))) (some_call mail_call call e)
       (take-host (kept_at HOST).waiting_items refl sound.host.own)

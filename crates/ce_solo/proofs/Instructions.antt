@@ -9,8 +9,8 @@ use Rattle.rv_model.specs.declared.inst.Inst.TheVariants.{Lui, Auipc, Jal, Jalr,
 use Rattle.rv_model.specs.Words.{dec}
 use Rattle.rv_model.specs.Word.{wrapping_sum}
 use Rattle.rv_model.specs.Private.{word_at_pc}
-use Rattle.rv_model.specs.Exec.{Outcome, next_state, call_state, stop_state, ◌>>=◌, reg, with_reg, is_taken, imm_result, reg_result, load_size, store_size, loaded_number, next_pc, offset_by, jump_outcome, effect_of, exec}
-use Rattle.ce_model.specs.Space.{Space, loaded_at, stored_at, process_access}
+use Rattle.rv_model.specs.Exec.{Outcome, next_state, call_state, stop_state, ◌>>=◌, register_value, with_register, is_taken, immediate_result, register_result, load_size, store_size, loaded_number, next_pc, offset_by, jump_outcome, effect_of, exec}
+use Rattle.ce_model.specs.Space.{Space, load_result, store_result, process_access}
 use Rattle.ce_solo.proofs.Windows.{IsSameHeld, same_held, stored-held}
 
 -- what an instruction leads to
@@ -28,7 +28,7 @@ pub any_ok : {X : Type 0} (r : Result X Stop) → IfOk r (λ x. Unit {0})
 any_ok (Ok x) = tt
 any_ok (Err cause) = tt
 
-length-with_reg : (x : List ℕ) (rd value : ℕ) → length (with_reg x rd value) ≡ length x
+length-with_reg : (x : List ℕ) (rd value : ℕ) → length (with_register x rd value) ≡ length x
 length-with_reg x rd value = cond_both (rd == 0) x (slice_set x rd value) (λ y. length y ≡ length x) (λ t. refl) (λ f. length-set x rd value)
 
 jumped-led : (x y : List ℕ) (space : Space) (pc target : ℕ) → length y ≡ length x → IsLed x space (jump_outcome pc target y space)
@@ -39,21 +39,21 @@ performed-led : (inst : Inst) (x : List ℕ) (pc : ℕ) (space : Space) → IsLe
 unfolding effect_of
 performed-led (Lui rd imm) x pc space = (length-with_reg x rd imm, same_held space)
 performed-led (Auipc rd imm) x pc space = (length-with_reg x rd (wrapping_sum pc imm), same_held space)
-performed-led (Jal rd offset) x pc space = jumped-led x (with_reg x rd (next_pc pc)) space pc (offset_by pc offset) (length-with_reg x rd (next_pc pc))
+performed-led (Jal rd offset) x pc space = jumped-led x (with_register x rd (next_pc pc)) space pc (offset_by pc offset) (length-with_reg x rd (next_pc pc))
 performed-led (Jalr rd rs1 imm) x pc space =
-    jumped-led x (with_reg x rd (next_pc pc)) space pc (offset_by (reg x rs1) imm / 2 * 2) (length-with_reg x rd (next_pc pc))
+    jumped-led x (with_register x rd (next_pc pc)) space pc (offset_by (register_value x rs1) imm / 2 * 2) (length-with_reg x rd (next_pc pc))
 performed-led (Branch op rs1 rs2 offset) x pc space =
-    cond_both (is_taken op (reg x rs1) (reg x rs2)) (jump_outcome pc (offset_by pc offset) x space) (next_state x (next_pc pc) space) (IsLed x space)
+    cond_both (is_taken op (register_value x rs1) (register_value x rs2)) (jump_outcome pc (offset_by pc offset) x space) (next_state x (next_pc pc) space) (IsLed x space)
     (λ t. jumped-led x x space pc (offset_by pc offset) refl) (λ f. (refl, same_held space))
 performed-led (Load op rd rs1 imm) x pc space =
-    bind_led x space (loaded_at space (offset_by (reg x rs1) imm) (load_size op)) (λ n. next_state (with_reg x rd (loaded_number op n)) (next_pc pc) space)
-    (λ n. Unit {0}) (any_ok (loaded_at space (offset_by (reg x rs1) imm) (load_size op))) (λ n p. (length-with_reg x rd (loaded_number op n), same_held space))
+    bind_led x space (load_result space (offset_by (register_value x rs1) imm) (load_size op)) (λ n. next_state (with_register x rd (loaded_number op n)) (next_pc pc) space)
+    (λ n. Unit {0}) (any_ok (load_result space (offset_by (register_value x rs1) imm) (load_size op))) (λ n p. (length-with_reg x rd (loaded_number op n), same_held space))
 performed-led (Store op rs1 rs2 imm) x pc space =
-    bind_led x space (stored_at space (offset_by (reg x rs1) imm) (store_size op) (reg x rs2 % 256 ^ store_size op)) (λ left. next_state x (next_pc pc) left)
-    (IsSameHeld space) (stored-held space (offset_by (reg x rs1) imm) (store_size op) (reg x rs2 % 256 ^ store_size op)) (λ left held. (refl, held))
+    bind_led x space (store_result space (offset_by (register_value x rs1) imm) (store_size op) (register_value x rs2 % 256 ^ store_size op)) (λ left. next_state x (next_pc pc) left)
+    (IsSameHeld space) (stored-held space (offset_by (register_value x rs1) imm) (store_size op) (register_value x rs2 % 256 ^ store_size op)) (λ left held. (refl, held))
 performed-led (OpImm op rd rs1 imm) x pc space =
-    (length-with_reg x rd (imm_result op (reg x rs1) (cast_unsigned w32 imm)), same_held space)
-performed-led (Op op rd rs1 rs2) x pc space = (length-with_reg x rd (reg_result op (reg x rs1) (reg x rs2)), same_held space)
+    (length-with_reg x rd (immediate_result op (register_value x rs1) (cast_unsigned w32 imm)), same_held space)
+performed-led (Op op rd rs1 rs2) x pc space = (length-with_reg x rd (register_result op (register_value x rs1) (register_value x rs2)), same_held space)
 performed-led (Fence word) x pc space = (refl, same_held space)
 performed-led Ecall x pc space = (refl, same_held space)
 performed-led Ebreak x pc space = tt

@@ -1,4 +1,5 @@
--- The items that wait at a node: their starts, kills, parcels and numbers, where lists of them are joined or filtered.
+-- The items that wait at a node: their starts, kills, parcels and numbers, where lists of them are
+-- joined or filtered.
 use Rattle.std.proofs.Common.{◌≡◌, ℕ, ◌<◌, ◌≤◌, Bool, true, false, ◌||◌, ◌==◌, List, [], ◌∷◌, ◌++◌, map, filter, count_by, refl, ap, sym, ◌∙◌, subst, arith, inl, inr}
 use Rattle.std.specs.List.{AllByRecursion}
 use Rattle.std.proofs.lemmas.Bool.{cond_both, cases_Bool, cases_eq, both_ways, eq-eqb, ne_eqb, eqb-true}
@@ -114,42 +115,42 @@ start_first-at pid (x ∷ before) behind first = start_first-at pid before behin
 same_among : (a b : ℕ) (pids : List ℕ) → (a == b) ≡ true → is_among a pids ≡ is_among b pids
 same_among a b pids e = ap (λ pid. is_among pid pids) (eqb-true a b e)
 
-pub own-starts : (cube : Cube) (r pid : ℕ) (kept : NodeRecord) (items : List Item) → is_among pid kept.spawned_ids ≡ false
-    → AllByRecursion (IsItemOf cube r kept) items → AllByRecursion (λ x. is_start_of pid x ≡ false) items
-own-starts cube r pid kept [] none own = tt
-own-starts cube r pid kept (start other image ∷ items) none own = (
+pub own-starts : (cube : Cube) (r pid : ℕ) (node_record : NodeRecord) (items : List Item) → is_among pid node_record.spawned_ids ≡ false
+    → AllByRecursion (IsItemOf cube r node_record) items → AllByRecursion (λ x. is_start_of pid x ≡ false) items
+own-starts cube r pid node_record [] none own = tt
+own-starts cube r pid node_record (start other image ∷ items) none own = (
   elim (cases_Bool (other == pid)) [
-    | inl t ↦ absurd (both_ways _ none (sym (same_among other pid kept.spawned_ids t) ∙ own.0.0))
+    | inl t ↦ absurd (both_ways _ none (sym (same_among other pid node_record.spawned_ids t) ∙ own.0.0))
     | inr f ↦ f
   ],
-  own-starts cube r pid kept items none own.1,
+  own-starts cube r pid node_record items none own.1,
 )
-own-starts cube r pid kept (mail parcel ∷ items) none own = (refl, own-starts cube r pid kept items none own.1)
-own-starts cube r pid kept (kill other ∷ items) none own = (refl, own-starts cube r pid kept items none own.1)
+own-starts cube r pid node_record (mail parcel ∷ items) none own = (refl, own-starts cube r pid node_record items none own.1)
+own-starts cube r pid node_record (kill other ∷ items) none own = (refl, own-starts cube r pid node_record items none own.1)
 
-pub own-kills : (cube : Cube) (r pid : ℕ) (kept : NodeRecord) (items : List Item) → is_among pid kept.killed_ids ≡ false
-    → AllByRecursion (IsItemOf cube r kept) items → AllByRecursion (λ x. is_kill_of pid x ≡ false) items
-own-kills cube r pid kept [] none own = tt
-own-kills cube r pid kept (start other image ∷ items) none own = (refl, own-kills cube r pid kept items none own.1)
-own-kills cube r pid kept (mail parcel ∷ items) none own = (refl, own-kills cube r pid kept items none own.1)
-own-kills cube r pid kept (kill other ∷ items) none own = (
+pub own-kills : (cube : Cube) (r pid : ℕ) (node_record : NodeRecord) (items : List Item) → is_among pid node_record.killed_ids ≡ false
+    → AllByRecursion (IsItemOf cube r node_record) items → AllByRecursion (λ x. is_kill_of pid x ≡ false) items
+own-kills cube r pid node_record [] none own = tt
+own-kills cube r pid node_record (start other image ∷ items) none own = (refl, own-kills cube r pid node_record items none own.1)
+own-kills cube r pid node_record (mail parcel ∷ items) none own = (refl, own-kills cube r pid node_record items none own.1)
+own-kills cube r pid node_record (kill other ∷ items) none own = (
   elim (cases_Bool (other == pid)) [
-    | inl t ↦ absurd (both_ways _ none (sym (same_among other pid kept.killed_ids t) ∙ own.0))
+    | inl t ↦ absurd (both_ways _ none (sym (same_among other pid node_record.killed_ids t) ∙ own.0))
     | inr f ↦ f
   ],
-  own-kills cube r pid kept items none own.1,
+  own-kills cube r pid node_record items none own.1,
 )
 
 -- an item of a node stays one where more ids were spawned and killed
-pub own-more : (cube : Cube) (r : ℕ) (kept kept' : NodeRecord) (items : List Item)
-    → ((pid : ℕ) → is_among pid kept.spawned_ids ≡ true → is_among pid kept'.spawned_ids ≡ true)
-    → ((pid : ℕ) → is_among pid kept.killed_ids ≡ true → is_among pid kept'.killed_ids ≡ true)
-    → AllByRecursion (IsItemOf cube r kept) items → AllByRecursion (IsItemOf cube r kept') items
-own-more cube r kept kept' [] spawned killed own = tt
-own-more cube r kept kept' (start pid image ∷ items) spawned killed own =
-    ((spawned pid own.0.0, own.0.1), own-more cube r kept kept' items spawned killed own.1)
-own-more cube r kept kept' (mail parcel ∷ items) spawned killed own = (own.0, own-more cube r kept kept' items spawned killed own.1)
-own-more cube r kept kept' (kill pid ∷ items) spawned killed own = (killed pid own.0, own-more cube r kept kept' items spawned killed own.1)
+pub own-more : (cube : Cube) (r : ℕ) (node_record node_record' : NodeRecord) (items : List Item)
+    → ((pid : ℕ) → is_among pid node_record.spawned_ids ≡ true → is_among pid node_record'.spawned_ids ≡ true)
+    → ((pid : ℕ) → is_among pid node_record.killed_ids ≡ true → is_among pid node_record'.killed_ids ≡ true)
+    → AllByRecursion (IsItemOf cube r node_record) items → AllByRecursion (IsItemOf cube r node_record') items
+own-more cube r node_record node_record' [] spawned killed own = tt
+own-more cube r node_record node_record' (start pid image ∷ items) spawned killed own =
+    ((spawned pid own.0.0, own.0.1), own-more cube r node_record node_record' items spawned killed own.1)
+own-more cube r node_record node_record' (mail parcel ∷ items) spawned killed own = (own.0, own-more cube r node_record node_record' items spawned killed own.1)
+own-more cube r node_record node_record' (kill pid ∷ items) spawned killed own = (killed pid own.0, own-more cube r node_record node_record' items spawned killed own.1)
 
 -- ---- the name of an item
 

@@ -1,4 +1,5 @@
--- Lists that are joined, filtered, or lose one of their members: what holds of each member, of each two, and how many there are.
+-- Lists that are joined, filtered, or lose one of their members: what holds of each member, of each
+-- two, and how many there are.
 use Rattle.std.proofs.Common.{◌≡◌, ℕ, zero, suc, ◌+◌, ◌≤◌, Bool, true, false, not, if◌then◌else◌, List, [], ◌∷◌, ◌++◌, map, filter, find, count_by, slice_get, Some, IfSome, refl, ap, ◌∙◌, subst, arith, inl, inr, append-nil}
 use Rattle.std.specs.List.{AllByRecursion, list_any}
 use Rattle.std.proofs.lemmas.Bool.{cond_both, cases_Bool, both_ways, or_parts, or_from, not_from_true, not_from_false}
@@ -195,10 +196,10 @@ find-out e named (y ∷ ys) x f name once =
 
 -- ---- lists with another behind: with none behind, a list is as it was
 
-abbrev pub appended : {X : Type 0} → List X → List X → List X
-appended xs [] = xs
-appended xs (y ∷ ys) = xs ++ y ∷ ys
+abbrev pub with_appended : {X : Type 0} → List X → List X → List X
+with_appended xs [] = xs
+with_appended xs (y ∷ ys) = xs ++ y ∷ ys
 
-pub appended-is : {X : Type 0} (xs ys : List X) → xs ++ ys ≡ appended xs ys
-appended-is xs [] = append-nil xs
-appended-is xs (y ∷ ys) = refl
+pub with_appended-is : {X : Type 0} (xs ys : List X) → xs ++ ys ≡ with_appended xs ys
+with_appended-is xs [] = append-nil xs
+with_appended-is xs (y ∷ ys) = refl

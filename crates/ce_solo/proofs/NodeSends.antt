@@ -1,6 +1,7 @@
 -- An entry of a node that sends parcels leaves a sound cube.
 use Rattle.std.proofs.Common.{◌≡◌, ℕ, ◌+◌, ◌^◌, ◌<◌, Bool, true, false, ◌==◌, if◌then◌else◌, List, [], ◌++◌, map, length, refl, ap, sym, ◌∙◌, subst, arith, inl, inr}
 use Rattle.std.proofs.lemmas.Bool.{eq-eqb, ne_eqb, or_cases}
+use Rattle.ce_model.specs.declared.calls.TheConstants.{DONE}
 use Rattle.ce_model.specs.declared.topology.TheConstants.{HOST}
 use Rattle.ce_model.specs.declared.topology.Place.{Place}
 use Rattle.ce_model.specs.declared.topology.BlockId.{BlockId}
@@ -15,14 +16,14 @@ use Rattle.ce_model.specs.Hearing.{answer_of, node_after_hearing}
 use Rattle.ce_model.specs.Cube.{Cube, CubeState, IsCube}
 use Rattle.ce_model.specs.Sound.{IsSound}
 use Rattle.ce_solo.proofs.Counting.{count, count-nil, count-append, sum_run-at}
-use Rattle.ce_solo.proofs.Lists.{all-weaker, appended, appended-is}
+use Rattle.ce_solo.proofs.Lists.{all-weaker, with_appended, with_appended-is}
 use Rattle.ce_solo.proofs.Items.{parcel_ids}
 use Rattle.ce_solo.proofs.Nodes.{became-then}
 use Rattle.ce_solo.proofs.Words.{call_ids, HasMadeCall}
 use Rattle.ce_solo.proofs.Hears.{told-hears}
-use Rattle.ce_solo.proofs.Records.{kept_with, HasStayedSound, keeps-mails, mails-ids}
-use Rattle.ce_solo.proofs.Sending.{IsTargetOf, is_host, sent_ids, to_node, from-ids, are_sent, sent-new, sent-host, sent-sum}
-use Rattle.ce_solo.proofs.Entries.{record_by, state_after, sound_node-became}
+use Rattle.ce_solo.proofs.Records.{record_with, HasStayedSound, keeps-mails, mails-ids}
+use Rattle.ce_solo.proofs.Sending.{IsTargetOf, is_host, sent_ids, node_parcels, from-ids, are_sent, sent-new, sent-host, sent-sum}
+use Rattle.ce_solo.proofs.Entries.{cube_record_after, state_after, sound_node-became}
 use Rattle.ce_solo.proofs.Acts.{idle-goes, node-acts}
 
 -- a target of a node's call is one of its cube
@@ -48,7 +49,7 @@ module _ (cube : Cube) (s : CubeState) (r : ℕ) (of : IsCube cube) (below : r <
   gone id q = if r == q then count id (call_ids (send_call pid to bytes)) else 0
 
   abbrev come : BlockId → ℕ → ℕ
-  come id q = count id (sent_ids (to_node q ps))
+  come id q = count id (sent_ids (node_parcels q ps))
 
   sends-own : (b : Bool) → b ≡ true → (n : ℕ) → (if b then n else 0) ≡ n
   sends-own b t n = ap {B = ℕ} (λ b. if b then n else 0) t
@@ -63,19 +64,19 @@ module _ (cube : Cube) (s : CubeState) (r : ℕ) (of : IsCube cube) (below : r <
       (all-weaker (λ (target : Place × BlockId). is_target now target.0 ≡ true) (λ target. IsTargetOf cube target.0) to (λ target h. target_of cube now target.0 same h) said.of_node) in
       let sent' = s.standing.parcel_count + length ps in
       let keeps : (q : ℕ) (mark : Mark) → q < 2 ^ cube.dim
-      → HasStayedSound cube sent' q (s.standing.node_record q) (kept_with (appended (s.standing.node_record q).waiting_items (map mail (to_node q ps))) (s.standing.node_record q).spawned_ids (s.standing.node_record q).killed_ids mark) (sent_ids (to_node q ps)) [] =
-      λ q mark within. keeps-mails cube s.standing.parcel_count sent' q (s.standing.node_record q) mark (to_node q ps) are.more (sound.records q within) (sent-new cube s.standing.parcel_count sent' ps of are q within) in
+      → HasStayedSound cube sent' q (s.standing.node_record q) (record_with (with_appended (s.standing.node_record q).waiting_items (map mail (node_parcels q ps))) (s.standing.node_record q).spawned_ids (s.standing.node_record q).killed_ids mark) (sent_ids (node_parcels q ps)) [] =
+      λ q mark within. keeps-mails cube s.standing.parcel_count sent' q (s.standing.node_record q) mark (node_parcels q ps) are.more (sound.records q within) (sent-new cube s.standing.parcel_count sent' ps of are q within) in
       let heard = told-hears cube.images now 0 said.became.well said.turn in
-      let node = node_after_hearing cube.images now (answer_of 0) in
+      let node = node_after_hearing cube.images now (answer_of DONE) in
       let mine = keeps r (mark_after (s.standing.node_record r).mark what) below in
       let both = became-then said.became heard.became in
       node-acts cube s r what come gone of below sound (record {
         others = λ q within differ.
-            idle-goes cube sent' q (s.standing.node_record q) (record_by false q (record { user = cube.user; actor = r; what = what }) (s.standing.node_record q)) (s.node q) (sent_ids (to_node q ps))
+            idle-goes cube sent' q (s.standing.node_record q) (cube_record_after false q (record { user = cube.user; actor = r; what = what }) (s.standing.node_record q)) (s.node q) (sent_ids (node_parcels q ps))
             (λ id. gone id q) (sound.nodes q within) (λ id. sends-other (r == q) (ne_eqb r q differ) (count id (call_ids (send_call pid to bytes)))) (keeps q (s.standing.node_record q).mark within);
         own = record {
           record_sound = mine.sound;
-          node_sound = sound_node-became cube (s.standing.node_record r) (record_by true r (record { user = cube.user; actor = r; what = what }) (s.standing.node_record r)) r (s.node r) node [] (call_ids (send_call pid to bytes) ++ []) (sound.nodes r below) mine.births both heard.turn;
+          node_sound = sound_node-became cube (s.standing.node_record r) (cube_record_after true r (record { user = cube.user; actor = r; what = what }) (s.standing.node_record r)) r (s.node r) node [] (call_ids (send_call pid to bytes) ++ []) (sound.nodes r below) mine.births both heard.turn;
           blocks = λ id. omega (arith, mine.parcels id, both.blocks id, count-nil id, count-append id (call_ids (send_call pid to bytes)) [], sends-own (r == r) (eq-eqb r r refl) (count id (call_ids (send_call pid to bytes))));
         };
         host = sent-host cube s.standing.parcel_count sent' ps of are (s.standing.node_record HOST).waiting_items sound.host;
@@ -88,9 +89,9 @@ module _ (cube : Cube) (s : CubeState) (r : ℕ) (of : IsCube cube) (below : r <
               left,
               sends-own (r == r) (eq-eqb r r refl) (count id (call_ids (send_call pid to bytes))),
               ap (count id) (from-ids (record { node = r; pid = pid }) bytes s.standing.parcel_count to),
-              ap (λ items. count id (parcel_ids items)) (appended-is (s.standing.node_record HOST).waiting_items (map mail (to_node HOST ps))),
-              ap (count id) (mails-ids (s.standing.node_record HOST).waiting_items (to_node HOST ps)),
-              count-append id (parcel_ids (s.standing.node_record HOST).waiting_items) (sent_ids (to_node HOST ps)),
+              ap (λ items. count id (parcel_ids items)) (with_appended-is (s.standing.node_record HOST).waiting_items (map mail (node_parcels HOST ps))),
+              ap (count id) (mails-ids (s.standing.node_record HOST).waiting_items (node_parcels HOST ps)),
+              count-append id (parcel_ids (s.standing.node_record HOST).waiting_items) (sent_ids (node_parcels HOST ps)),
             );
         dispatches = sound.dispatches;
       })

@@ -1,4 +1,5 @@
--- What a node keeps when one of its processes changes: its limits, the list of those that poll, and its blocks.
+-- What a node keeps when one of its processes changes: its limits, the list of those that poll, and
+-- its blocks.
 use Rattle.std.proofs.Common.{◌≡◌, ℕ, ◌+◌, ◌<◌, ◌≤◌, true, false, ◌==◌, if◌then◌else◌, List, [], ◌∷◌, ◌++◌, length, flat_map, slice_set, slice_index_or, count_by, Option, Some, None, IsTrue, refl, ap, sym, ◌∙◌, subst, arith, length-set, inl, inr}
 use Rattle.std.proofs.lemmas.Bool.{cond_both, cases_eq, eqb-true, ne_eqb, cases_Bool, both_ways}
 use Rattle.std.proofs.lemmas.List.{get_or-set_same, get_or-set_other, length-map}
@@ -10,7 +11,7 @@ use Rattle.ce_model.specs.Limits.{process_count, window_count}
 use Rattle.ce_model.specs.Blocks.{Block, with_ids}
 use Rattle.ce_model.specs.Space.{mapped_ids}
 use Rattle.ce_model.specs.Process.{Process, is_stopped, unborn_process, ended_process}
-use Rattle.ce_model.specs.Node.{Turn, Node, process_at, without_poller, with_stopped, blocks_of}
+use Rattle.ce_model.specs.Node.{Turn, Node, process_at, without_poller, with_stopped_process, blocks_of}
 use Rattle.ce_model.specs.Sound.{is_unborn, is_running, is_polling, is_turn_of, AreInOrder}
 use Rattle.ce_solo.proofs.Counting.{count, count-nil, count-append, count-put_all, count-set, count-piece, rising-put_all}
 use Rattle.ce_solo.proofs.Windows.{IsSameHeld, ids-emptied}
@@ -48,7 +49,7 @@ polls-more pid q xs =
 
 -- a process of a node whose turn this is
 pub record IsWellProcess (turn : Option Turn) (pid : ℕ) (p : Process) : Type 0 where
-  pub registers : length p.regs ≡ REGISTER_COUNT
+  pub registers : length p.registers ≡ REGISTER_COUNT
   pub windows : length p.space.windows ≤ window_count
   pub unborn_used : IsTrue (is_unborn p.status) → p.space.windows ≡ []
   pub stopped_holds : IsTrue (is_stopped p.status) → mapped_ids p.space ≡ []
@@ -73,7 +74,8 @@ well-turn node turn left calls well = record {
   once = well.once;
 }
 
--- a node has become another, whose turn this is: blocks came and went, no process was born, and who has stopped has stopped
+-- a node has become another, whose turn this is: blocks came and went, no process was born, and who
+-- has stopped has stopped
 pub record HasBecome (turn : Option Turn) (node node' : Node) (come gone : List BlockId) : Type 0 where
   pub number : node'.number ≡ node.number
   pub dim : node'.dim ≡ node.dim
@@ -211,7 +213,7 @@ abbrev empty_window : Option Block → Option Block
 empty_window window = None
 
 pub stop-change : (turn : Option Turn) (node : Node) (pid : ℕ) (p : Process) (cause : Stop) → IsWell turn node → pid < process_count
-    → length p.regs ≡ REGISTER_COUNT → length p.space.windows ≤ window_count → IsSameHeld (process_at node pid).space p.space
+    → length p.registers ≡ REGISTER_COUNT → length p.space.windows ≤ window_count → IsSameHeld (process_at node pid).space p.space
     → ((q : ℕ) → (q ≡ pid → ⊥) → is_turn_of q turn ≡ false)
     → IsChange turn None node pid (ended_process cause p) (with_ids (mapped_ids p.space) node.store) (without_poller pid node.polling_ids) [] []
 stop-change turn node pid p cause well within registers windows held turns = record {
@@ -235,9 +237,9 @@ stop-change turn node pid p cause well within registers windows held turns = rec
 
 -- a born process stops: its blocks go to the store
 pub stop-became : (turn : Option Turn) (node : Node) (pid : ℕ) (p : Process) (cause : Stop) → IsWell turn node → pid < process_count
-    → length p.regs ≡ REGISTER_COUNT → length p.space.windows ≤ window_count → IsSameHeld (process_at node pid).space p.space
+    → length p.registers ≡ REGISTER_COUNT → length p.space.windows ≤ window_count → IsSameHeld (process_at node pid).space p.space
     → ((q : ℕ) → (q ≡ pid → ⊥) → is_turn_of q turn ≡ false) → is_unborn (process_at node pid).status ≡ false
-    → HasBecome None node (with_stopped node pid p cause) [] []
+    → HasBecome None node (with_stopped_process node pid p cause) [] []
 stop-became turn node pid p cause well within registers windows held turns born =
     change-became turn None None node pid (ended_process cause p) (with_ids (mapped_ids p.space) node.store) (without_poller pid node.polling_ids) [] []
     (stop-change turn node pid p cause well within registers windows held turns) (sym born) (λ h. refl)

@@ -10,7 +10,7 @@ use Rattle.ce_model.specs.declared.entry.TakeResult.{TakeResult}
 use Rattle.ce_model.specs.declared.entry.TakeResult.TheVariants.{Start, Mail, Kill}
 use Rattle.ce_model.specs.Parcels.{Parcel, Item, start, mail, kill, is_member, is_eligible, is_item, take_result_of, is_named_by, parcel_in}
 use Rattle.ce_model.specs.Process.{is_receiving, is_stopped}
-use Rattle.ce_model.specs.Node.{Node, process_at, take_call, take_of, process_set}
+use Rattle.ce_model.specs.Node.{Node, process_at, take_call, take_call_of, process_set}
 use Rattle.ce_model.specs.Answers.{offer_of, is_used_up, first_number}
 use Rattle.ce_model.specs.Saying.{says}
 use Rattle.ce_model.specs.Cube.{Cube, CubeState, IsCube, parcel_numbered}
@@ -22,7 +22,7 @@ use Rattle.ce_solo.proofs.Words.{HasMadeCall}
 use Rattle.ce_solo.proofs.Hears.{receiving_is}
 use Rattle.ce_solo.proofs.Records.{named_once}
 use Rattle.ce_solo.proofs.HandedOver.{member-of, find-passes, dead-of}
-use Rattle.ce_solo.proofs.Stopped.{gone}
+use Rattle.ce_solo.proofs.Stopped.{is_receiver_stopped}
 use Rattle.ce_solo.proofs.Between.{found_bytes, between-other, one-between, none-between, between-first, between-receiver, none-earlier, handed-own}
 use Rattle.ce_solo.proofs.InOrder.{HasPassed, passes, hands, drops}
 
@@ -86,9 +86,9 @@ host-passed from to (mail parcel ∷ rest) given handed g' own rising e is =
     ])
 
 pub host-takes : (cube : Cube) (s : CubeState) (from to : Place) (given : TakeResult) → IsSound cube s → to.node ≡ HOST
-    → option_map (λ n. Mail 0 n) (first_number (s.standing.node_record to.node).waiting_items) ≡ Some given → gone cube s to ≡ false → (g' : Bool) → (user : ℕ)
+    → option_map (λ n. Mail 0 n) (first_number (s.standing.node_record to.node).waiting_items) ≡ Some given → is_receiver_stopped cube s to ≡ false → (g' : Bool) → (user : ℕ)
     → HasPassed (bytes_handed from to (s.standing.node_record to.node).waiting_items (record { user = user; actor = to.node; what = HostTake (first_number (s.standing.node_record to.node).waiting_items) }))
-    (bytes_between from to (s.standing.node_record to.node).waiting_items) (bytes_between from to (unnamed given (s.standing.node_record to.node).waiting_items)) (gone cube s to) g'
+    (bytes_between from to (s.standing.node_record to.node).waiting_items) (bytes_between from to (unnamed given (s.standing.node_record to.node).waiting_items)) (is_receiver_stopped cube s to) g'
 host-takes cube s from to given sound is e here g' user =
     let items = (s.standing.node_record to.node).waiting_items in
     let entry : Entry = record { user = user; actor = to.node; what = HostTake (first_number items) } in
@@ -116,21 +116,21 @@ module _ (cube : Cube) (s : CubeState) (of : IsCube cube) (sound : IsSound cube 
       (named_once cube s.standing.parcel_count to.node (s.standing.node_record to.node) item (sound.records to.node below))
 
   -- who asks has not stopped
-  asks-here : is_member to.pid asking ≡ true → gone cube s to ≡ false
+  asks-here : is_member to.pid asking ≡ true → is_receiver_stopped cube s to ≡ false
   asks-here h =
-      false_from_ne_true (gone cube s to) (λ t.
+      false_from_ne_true (is_receiver_stopped cube s to) (λ t.
       let parts = and_parts (nat_lt to.node (2 ^ cube.dim)) (is_stopped (process_at (s.node to.node) to.pid).status) t in
       let receives = asking-of now said.of_node.0 in
       both_ways _ (receiving_is (process_at now to.pid).status receives).1 (said.became.stopped to.pid parts.1))
     where
-      asking-of : (node : Node) → take_call asking dead poller ≡ take_of node → is_receiving (process_at node to.pid).status ≡ true
+      asking-of : (node : Node) → take_call asking dead poller ≡ take_call_of node → is_receiving (process_at node to.pid).status ≡ true
       asking-of node same =
           let is : asking ≡ process_set is_receiving node.processes = cc in
           member-of is_receiving node.processes to.pid (ap (is_member to.pid) (sym is) ∙ h)
 
   mail-passed : (parcel : Parcel) (g' : Bool) → find (is_eligible asking dead) items ≡ Some (mail parcel)
       → (is_stopped (process_at now to.pid).status ≡ true → g' ≡ true)
-      → HasPassed (bytes_handed from to items (given_entry (take_result_of (mail parcel)))) (bytes_between from to items) (bytes_between from to (unnamed (take_result_of (mail parcel)) items)) (gone cube s to) g'
+      → HasPassed (bytes_handed from to items (given_entry (take_result_of (mail parcel)))) (bytes_between from to items) (bytes_between from to (unnamed (take_result_of (mail parcel)) items)) (is_receiver_stopped cube s to) g'
   mail-passed parcel g' found stops =
       let out = out-of (mail parcel) found in
       let entry = given_entry (take_result_of (mail parcel)) in
@@ -141,7 +141,7 @@ module _ (cube : Cube) (s : CubeState) (of : IsCube cube) (sound : IsSound cube 
       elim (cases_Bool (parcel.to.pid == to.pid && is_member to.pid asking)) [
         | inl t ↦
             let parts = and_parts (parcel.to.pid == to.pid) (is_member to.pid asking) t in
-            passed-parcel from to (is_eligible asking dead) named items parcel handed (gone cube s to) g' out
+            passed-parcel from to (is_eligible asking dead) named items parcel handed (is_receiver_stopped cube s to) g' out
             (handed-own from to items entry (Some parcel.number) (eq-eqb to.node to.node refl) (ap number t) ∙ ap (found_bytes from to) taken)
             (λ before all. none-earlier from to asking dead before (or_left _ _ parts.1) all) (λ b. asks-here parts.1)
         | inr f ↦
@@ -153,7 +153,7 @@ module _ (cube : Cube) (s : CubeState) (of : IsCube cube) (sound : IsSound cube 
                   let can = find-passes (is_eligible asking dead) items (mail parcel) found in
                   let can_be_given : (is_member to.pid asking || is_member to.pid dead) ≡ true = subst (λ p. (is_member p asking || is_member p dead) ≡ true) (eqb-true parcel.to.pid to.pid pid) can in
                   drops none (stops (dead-of now asking dead to.pid poller said.of_node.0 (second_of (is_member to.pid asking) (is_member to.pid dead) no_asking can_be_given)))
-              | inr b ↦ passed-other from to (is_eligible asking dead) named items (mail parcel) handed (gone cube s to) g' out none (none-between from to parcel b)
+              | inr b ↦ passed-other from to (is_eligible asking dead) named items (mail parcel) handed (is_receiver_stopped cube s to) g' out none (none-between from to parcel b)
             ]
       ]
     where
@@ -162,24 +162,24 @@ module _ (cube : Cube) (s : CubeState) (of : IsCube cube) (sound : IsSound cube 
       second_of false y f h = h
 
   item-passed : (item : Item) (g' : Bool) → find (is_eligible asking dead) items ≡ Some item → (is_stopped (process_at now to.pid).status ≡ true → g' ≡ true)
-      → HasPassed (bytes_handed from to items (given_entry (take_result_of item))) (bytes_between from to items) (bytes_between from to (unnamed (take_result_of item) items)) (gone cube s to) g'
+      → HasPassed (bytes_handed from to items (given_entry (take_result_of item))) (bytes_between from to items) (bytes_between from to (unnamed (take_result_of item) items)) (is_receiver_stopped cube s to) g'
   item-passed (start pid image) g' found stops =
-      passed-other from to (is_eligible asking dead) (is_named_by (Start pid image)) items (start pid image) (bytes_handed from to items (given_entry (Start pid image))) (gone cube s to) g' (out-of (start pid image) found)
+      passed-other from to (is_eligible asking dead) (is_named_by (Start pid image)) items (start pid image) (bytes_handed from to items (given_entry (Start pid image))) (is_receiver_stopped cube s to) g' (out-of (start pid image) found)
       (handed-own from to items (given_entry (Start pid image)) None (eq-eqb to.node to.node refl) refl) refl
   item-passed (mail parcel) g' found stops = mail-passed parcel g' found stops
   item-passed (kill pid) g' found stops =
-      passed-other from to (is_eligible asking dead) (is_named_by (Kill pid)) items (kill pid) (bytes_handed from to items (given_entry (Kill pid))) (gone cube s to) g' (out-of (kill pid) found)
+      passed-other from to (is_eligible asking dead) (is_named_by (Kill pid)) items (kill pid) (bytes_handed from to items (given_entry (Kill pid))) (is_receiver_stopped cube s to) g' (out-of (kill pid) found)
       (handed-own from to items (given_entry (Kill pid)) None (eq-eqb to.node to.node refl) refl) refl
 
   given-passed : (item : Item) (given : TakeResult) (g' : Bool) → find (is_eligible asking dead) items ≡ Some item → take_result_of item ≡ given → (is_stopped (process_at now to.pid).status ≡ true → g' ≡ true)
-      → HasPassed (bytes_handed from to items (given_entry (take_result_of item))) (bytes_between from to items) (bytes_between from to (unnamed given items)) (gone cube s to) g'
+      → HasPassed (bytes_handed from to items (given_entry (take_result_of item))) (bytes_between from to items) (bytes_between from to (unnamed given items)) (is_receiver_stopped cube s to) g'
   given-passed item given g' found same stops =
-      subst (λ given. HasPassed (bytes_handed from to items (given_entry (take_result_of item))) (bytes_between from to items) (bytes_between from to (unnamed given items)) (gone cube s to) g') same
+      subst (λ given. HasPassed (bytes_handed from to items (given_entry (take_result_of item))) (bytes_between from to items) (bytes_between from to (unnamed given items)) (is_receiver_stopped cube s to) g') same
       (item-passed item g' found stops)
 
   offered-passed : (found : Option Item) (p : Option ℕ) (used : Bool) (given : TakeResult) (g' : Bool) → find (is_eligible asking dead) items ≡ found
       → (if is_item (offer_of found p used) then Some (offer_of found p used) else None) ≡ Some given → (is_stopped (process_at now to.pid).status ≡ true → g' ≡ true)
-      → HasPassed (bytes_handed from to items (given_entry (offer_of found p used))) (bytes_between from to items) (bytes_between from to (unnamed given items)) (gone cube s to) g'
+      → HasPassed (bytes_handed from to items (given_entry (offer_of found p used))) (bytes_between from to items) (bytes_between from to (unnamed given items)) (is_receiver_stopped cube s to) g'
   offered-passed (Some item) p true given g' f e stops = absurd (cc)
   offered-passed (Some (start pid image)) p false given g' f e stops = let same : take_result_of (start pid image) ≡ given = cc in given-passed (start pid image) given g' f same stops
   offered-passed (Some (mail parcel)) p false given g' f e stops = let same : take_result_of (mail parcel) ≡ given = cc in given-passed (mail parcel) given g' f same stops
@@ -191,5 +191,5 @@ module _ (cube : Cube) (s : CubeState) (of : IsCube cube) (sound : IsSound cube 
   pub node-takes : (given : TakeResult) (g' : Bool)
       → (if is_item (offer_of (find (is_eligible asking dead) items) poller (is_used_up s.standing)) then Some (offer_of (find (is_eligible asking dead) items) poller (is_used_up s.standing)) else None) ≡ Some given
       → (is_stopped (process_at now to.pid).status ≡ true → g' ≡ true)
-      → HasPassed (bytes_handed from to items (given_entry (offer_of (find (is_eligible asking dead) items) poller (is_used_up s.standing)))) (bytes_between from to items) (bytes_between from to (unnamed given items)) (gone cube s to) g'
+      → HasPassed (bytes_handed from to items (given_entry (offer_of (find (is_eligible asking dead) items) poller (is_used_up s.standing)))) (bytes_between from to items) (bytes_between from to (unnamed given items)) (is_receiver_stopped cube s to) g'
   node-takes given g' e stops = offered-passed (find (is_eligible asking dead) items) poller (is_used_up s.standing) given g' refl e stops

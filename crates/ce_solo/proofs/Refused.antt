@@ -1,5 +1,5 @@
--- Three wrong rules, each with a trace that it gives and a law that this trace breaks: one block in two parcels, the newest mail
--- first, and early mail dropped.
+-- Three wrong rules, each with a trace that it gives and a law that this trace breaks: one block in
+-- two parcels, the newest mail first, and early mail dropped.
 use Rattle.std.proofs.Common.{◌≡◌, ℕ, Bool, true, false, ◌||◌, List, [], ◌∷◌, map, find, reverse, slice_index, slice_index_or, None, refl, ap, arith, inr}
 use Rattle.rv_model.specs.Image.{ImageParts}
 use Rattle.ce_model.specs.declared.topology.TheConstants.{HOST}
@@ -18,10 +18,10 @@ use Rattle.ce_model.specs.Answers.{offer_of}
 use Rattle.ce_model.specs.Cube.{opening, state_after_trace}
 use Rattle.ce_model.specs.Owners.{IsBlockOf, IsOwned}
 use Rattle.ce_model.specs.Order.{messages_sent, messages_got, IsInOrder}
-use Rattle.ce_model.proofs.Rows.Cubes.{one_cube, by, place_0, host_block, host_parcel}
+use Rattle.ce_model.proofs.Rows.Cubes.{one_cube, row_entry, place_0, host_block, host_parcel}
 use Rattle.ce_solo.proofs.Counting.{hit-self, count, count-nil, count-cons, sum_run-part}
 use Rattle.ce_solo.proofs.Items.{parcel_ids}
-use Rattle.ce_solo.proofs.Totals.{holders-total, at_node, at_node-is, total-is}
+use Rattle.ce_solo.proofs.Totals.{holders-total, count_at_node, count_at_node-is, total-is}
 
 -- ---- one block in two parcels
 
@@ -31,7 +31,7 @@ one_block_each id places = map (λ to. (to, id)) places
 
 -- the host sends 1 to process 0 twice, in one block
 abbrev pub two_parcels : List Entry
-two_parcels = by HOST (Send 0 0 (one_block_each (host_block 0) (place_0 ∷ place_0 ∷ [])) (1 ∷ [])) ∷ []
+two_parcels = row_entry HOST (Send 0 0 (one_block_each (host_block 0) (place_0 ∷ place_0 ∷ [])) (1 ∷ [])) ∷ []
 
 -- what waits behind it
 two_wait : (image : ImageParts)
@@ -53,8 +53,8 @@ two_parcels-refused image owned =
       one,
       holders-total id cube.dim s,
       total-is id cube.dim s,
-      sum_run-part (at_node id s) 0 0 1 (omega arith) (omega arith),
-      at_node-is id s 0,
+      sum_run-part (count_at_node id s) 0 0 1 (omega arith) (omega arith),
+      count_at_node-is id s 0,
       ap (λ items. count id (parcel_ids items)) (two_wait image),
       count-cons id id (id ∷ []),
       count-cons id id [],
@@ -80,15 +80,15 @@ not_front front =
 -- ---- the newest mail first
 
 -- what a node would be given that takes the newest item first
-abbrev pub newest_given : ℕ → ℕ → List Item → TakeResult
-newest_given asking dead items = offer_of (find (is_eligible asking dead) (reverse items)) None false
+abbrev pub newest_result : ℕ → ℕ → List Item → TakeResult
+newest_result asking dead items = offer_of (find (is_eligible asking dead) (reverse items)) None false
 
 -- the host sends 1 and then 2 to process 0, which asks, and gets 2
 abbrev pub newest_first : List Entry
 newest_first =
-    by HOST (Send 0 0 ((place_0, host_block 0) ∷ []) (1 ∷ []))
-    ∷ by HOST (Send 0 1 ((place_0, host_block 1) ∷ []) (2 ∷ []))
-    ∷ by 0 (Take 1 0 None (newest_given 1 0 (mail (host_parcel 0 0 (1 ∷ [])) ∷ mail (host_parcel 1 1 (2 ∷ [])) ∷ [])))
+    row_entry HOST (Send 0 0 ((place_0, host_block 0) ∷ []) (1 ∷ []))
+    ∷ row_entry HOST (Send 0 1 ((place_0, host_block 1) ∷ []) (2 ∷ []))
+    ∷ row_entry 0 (Take 1 0 None (newest_result 1 0 (mail (host_parcel 0 0 (1 ∷ [])) ∷ mail (host_parcel 1 1 (2 ∷ [])) ∷ [])))
     ∷ []
 
 pub newest_first-refused : (image : ImageParts) → IsInOrder (opening (one_cube image)).standing newest_first → ⊥
@@ -101,18 +101,19 @@ newest_first-refused image order = not_front (order newest_first ([], refl) host
 abbrev pub is_early_eligible : ℕ → ℕ → ℕ → Item → Bool
 is_early_eligible asking dead unborn item = is_eligible asking dead item || is_member (item_id item) unborn
 
-abbrev pub early_given : ℕ → ℕ → ℕ → List Item → TakeResult
-early_given asking dead unborn items = offer_of (find (is_early_eligible asking dead unborn) items) None false
+abbrev pub early_result : ℕ → ℕ → ℕ → List Item → TakeResult
+early_result asking dead unborn items = offer_of (find (is_early_eligible asking dead unborn) items) None false
 
--- the host sends 1 to process 0 before it is spawned, and its node is given it at once; later 2 comes, and the process gets it
+-- the host sends 1 to process 0 before it is spawned, and its node is given it at once; later 2
+-- comes, and the process gets it
 abbrev pub early_dropped : List Entry
 early_dropped =
-    by HOST (Send 0 0 ((place_0, host_block 0) ∷ []) (1 ∷ []))
-    ∷ by 0 (Take 0 0 None (early_given 0 0 1 (mail (host_parcel 0 0 (1 ∷ [])) ∷ [])))
-    ∷ by HOST (Spawn 0 0 place_0 true)
-    ∷ by 0 (Take 0 0 None (Start 0 0))
-    ∷ by HOST (Send 0 1 ((place_0, host_block 1) ∷ []) (2 ∷ []))
-    ∷ by 0 (Take 1 0 None (Mail 0 1))
+    row_entry HOST (Send 0 0 ((place_0, host_block 0) ∷ []) (1 ∷ []))
+    ∷ row_entry 0 (Take 0 0 None (early_result 0 0 1 (mail (host_parcel 0 0 (1 ∷ [])) ∷ [])))
+    ∷ row_entry HOST (Spawn 0 0 place_0 true)
+    ∷ row_entry 0 (Take 0 0 None (Start 0 0))
+    ∷ row_entry HOST (Send 0 1 ((place_0, host_block 1) ∷ []) (2 ∷ []))
+    ∷ row_entry 0 (Take 1 0 None (Mail 0 1))
     ∷ []
 
 pub early_dropped-refused : (image : ImageParts) → IsInOrder (opening (one_cube image)).standing early_dropped → ⊥

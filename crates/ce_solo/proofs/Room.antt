@@ -1,4 +1,5 @@
--- How many items can wait: the parcels that wait have blocks of the cube, each once, and an id has one start and one kill.
+-- How many items can wait: the parcels that wait have blocks of the cube, each once, and an id has
+-- one start and one kill.
 use Rattle.std.proofs.Common.{◌≡◌, ℕ, zero, suc, ◌+◌, ◌*◌, ◌^◌, ◌<◌, ◌≤◌, ◌==◌, nat_lt, if◌then◌else◌, List, [], ◌∷◌, map, length, count_by, refl, ap, sym, ◌∙◌, subst, arith, inl, inr}
 use Rattle.std.specs.List.{AllByRecursion}
 use Rattle.std.proofs.lemmas.Bool.{cond_both, cases_Bool, cases_lt, both_ways, eq-eqb, ne_eqb, eqb-true, lt-ltb, le-ltb, true_from_ne_false, and_from, ltb-true}
@@ -17,7 +18,7 @@ use Rattle.ce_solo.proofs.Lists.{all-map, count_by-cons, one_if, one_if-true, on
 use Rattle.ce_solo.proofs.Items.{parcel_ids}
 use Rattle.ce_solo.proofs.Records.{among-all, killed-spawned}
 use Rattle.ce_solo.proofs.Sending.{host_past}
-use Rattle.ce_solo.proofs.Totals.{HeldName, names, names-total, at_node-is, total-is, total-le, at_node, total}
+use Rattle.ce_solo.proofs.Totals.{HeldName, names, names-total, count_at_node-is, total-is, total-le, count_at_node, total}
 
 -- ---- numbers that differ and are below a limit
 
@@ -84,9 +85,9 @@ same_number cube a b of block other e =
     let index : a.index ≡ b.index = omega (arith, e, block.index, other.index, home_blocks_lem) in
     let slot : home_slot cube.dim a ≡ home_slot cube.dim b = omega (arith, e, block.index, other.index, home_blocks_lem) in
     elim (cases_lt a.home (2 ^ cube.dim)) [
-      | inl at_node ↦ elim (cases_lt b.home (2 ^ cube.dim)) [
-        | inl there ↦ same_name a b (sym (slot_at_node cube.dim a at_node) ∙ slot ∙ slot_at_node cube.dim b there) index
-        | inr past ↦ absurd (omega (arith, at_node, slot, slot_at_node cube.dim a at_node, slot_at_host cube.dim b past))
+      | inl count_at_node ↦ elim (cases_lt b.home (2 ^ cube.dim)) [
+        | inl there ↦ same_name a b (sym (slot_at_node cube.dim a count_at_node) ∙ slot ∙ slot_at_node cube.dim b there) index
+        | inr past ↦ absurd (omega (arith, count_at_node, slot, slot_at_node cube.dim a count_at_node, slot_at_host cube.dim b past))
       ]
       | inr at_host ↦ elim (cases_lt b.home (2 ^ cube.dim)) [
         | inl there ↦ absurd (omega (arith, there, slot, slot_at_host cube.dim a at_host, slot_at_node cube.dim b there))
@@ -175,25 +176,25 @@ kills-times pid (mail parcel ∷ items) = omega (arith, kills-times pid items, c
 kills-times pid (kill other ∷ items) =
     omega (arith, kills-times pid items, count_by-cons (λ k. k == pid) other (kill_pids items), count_by-cons (is_kill_of pid) (kill other) items)
 
-starts-small : (cube : Cube) (sent r : ℕ) (kept : NodeRecord) (items : List Item) → IsSoundRecord cube sent r kept → AllByRecursion (IsItemOf cube r kept) items
+starts-small : (cube : Cube) (sent r : ℕ) (node_record : NodeRecord) (items : List Item) → IsSoundRecord cube sent r node_record → AllByRecursion (IsItemOf cube r node_record) items
     → AllByRecursion (λ pid. pid < process_count) (start_pids items)
 unfolding start_pids
-starts-small cube sent r kept [] sound own = tt
-starts-small cube sent r kept (start pid image ∷ items) sound own =
-    (among-all (λ q. q < process_count) pid kept.spawned_ids sound.ids own.0.0, starts-small cube sent r kept items sound own.1)
-starts-small cube sent r kept (mail parcel ∷ items) sound own = starts-small cube sent r kept items sound own.1
-starts-small cube sent r kept (kill pid ∷ items) sound own = starts-small cube sent r kept items sound own.1
+starts-small cube sent r node_record [] sound own = tt
+starts-small cube sent r node_record (start pid image ∷ items) sound own =
+    (among-all (λ q. q < process_count) pid node_record.spawned_ids sound.ids own.0.0, starts-small cube sent r node_record items sound own.1)
+starts-small cube sent r node_record (mail parcel ∷ items) sound own = starts-small cube sent r node_record items sound own.1
+starts-small cube sent r node_record (kill pid ∷ items) sound own = starts-small cube sent r node_record items sound own.1
 
-kills-small : (cube : Cube) (sent r : ℕ) (kept : NodeRecord) (items : List Item) → IsSoundRecord cube sent r kept → AllByRecursion (IsItemOf cube r kept) items
+kills-small : (cube : Cube) (sent r : ℕ) (node_record : NodeRecord) (items : List Item) → IsSoundRecord cube sent r node_record → AllByRecursion (IsItemOf cube r node_record) items
     → AllByRecursion (λ pid. pid < process_count) (kill_pids items)
 unfolding kill_pids
-kills-small cube sent r kept [] sound own = tt
-kills-small cube sent r kept (start pid image ∷ items) sound own = kills-small cube sent r kept items sound own.1
-kills-small cube sent r kept (mail parcel ∷ items) sound own = kills-small cube sent r kept items sound own.1
-kills-small cube sent r kept (kill pid ∷ items) sound own = (
-  among-all (λ q. q < process_count) pid kept.spawned_ids sound.ids
-      (true_from_ne_false (is_among pid kept.spawned_ids) (λ none. both_ways _ (killed-spawned pid kept.spawned_ids kept.killed_ids sound.killed none) own.0)),
-  kills-small cube sent r kept items sound own.1,
+kills-small cube sent r node_record [] sound own = tt
+kills-small cube sent r node_record (start pid image ∷ items) sound own = kills-small cube sent r node_record items sound own.1
+kills-small cube sent r node_record (mail parcel ∷ items) sound own = kills-small cube sent r node_record items sound own.1
+kills-small cube sent r node_record (kill pid ∷ items) sound own = (
+  among-all (λ q. q < process_count) pid node_record.spawned_ids sound.ids
+      (true_from_ne_false (is_among pid node_record.spawned_ids) (λ none. both_ways _ (killed-spawned pid node_record.spawned_ids node_record.killed_ids sound.killed none) own.0)),
+  kills-small cube sent r node_record items sound own.1,
 )
 
 -- blocks that are held are the cube's
@@ -210,14 +211,14 @@ held_blocks cube s ids sound within =
 pub node_room : (cube : Cube) (s : CubeState) (r : ℕ) → IsCube cube → IsSound cube s → r < 2 ^ cube.dim
     → length (s.standing.node_record r).waiting_items ≤ (2 ^ cube.dim + 1) * home_blocks + 2 * process_count
 node_room cube s r of sound below =
-    let kept = s.standing.node_record r in
+    let node_record = s.standing.node_record r in
     let is = sound.records r below in
-    let within : (id : BlockId) → count id (parcel_ids kept.waiting_items) ≤ total id cube.dim s =
-    λ id. omega (arith, total-is id cube.dim s, at_node-is id s r, sum_run-part (at_node id s) r 0 (2 ^ cube.dim) (omega arith) (omega arith)) in
-    let blocks = few-blocks cube (parcel_ids kept.waiting_items) of (held_blocks cube s (parcel_ids kept.waiting_items) sound within) (λ id. omega (arith, within id, total-le cube s id sound)) in
-    let starts = few-distinct (start_pids kept.waiting_items) process_count (starts-small cube s.standing.parcel_count r kept kept.waiting_items is is.own) (λ pid. omega (arith, is.one_start pid, starts-times pid kept.waiting_items)) in
-    let kills = few-distinct (kill_pids kept.waiting_items) process_count (kills-small cube s.standing.parcel_count r kept kept.waiting_items is is.own) (λ pid. omega (arith, is.one_kill pid, kills-times pid kept.waiting_items)) in
-    omega (arith, length-items kept.waiting_items, blocks, starts, kills)
+    let within : (id : BlockId) → count id (parcel_ids node_record.waiting_items) ≤ total id cube.dim s =
+    λ id. omega (arith, total-is id cube.dim s, count_at_node-is id s r, sum_run-part (count_at_node id s) r 0 (2 ^ cube.dim) (omega arith) (omega arith)) in
+    let blocks = few-blocks cube (parcel_ids node_record.waiting_items) of (held_blocks cube s (parcel_ids node_record.waiting_items) sound within) (λ id. omega (arith, within id, total-le cube s id sound)) in
+    let starts = few-distinct (start_pids node_record.waiting_items) process_count (starts-small cube s.standing.parcel_count r node_record node_record.waiting_items is is.own) (λ pid. omega (arith, is.one_start pid, starts-times pid node_record.waiting_items)) in
+    let kills = few-distinct (kill_pids node_record.waiting_items) process_count (kills-small cube s.standing.parcel_count r node_record node_record.waiting_items is is.own) (λ pid. omega (arith, is.one_kill pid, kills-times pid node_record.waiting_items)) in
+    omega (arith, length-items node_record.waiting_items, blocks, starts, kills)
 
 host_pids : (items : List Item) → AllByRecursion IsHostItem items → length items ≡ length (parcel_ids items)
 host_pids [] own = refl

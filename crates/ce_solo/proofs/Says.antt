@@ -1,4 +1,5 @@
--- What a node says: its turn keeps all that a node keeps, but for the blocks that its call takes out.
+-- What a node says: its turn keeps all that a node keeps, but for the blocks that its call takes
+-- out.
 use Rattle.std.proofs.Common.{◌≡◌, ℕ, zero, suc, ◌≤◌, List, [], length, Option, Some, None, IfSome, refl, sym, ◌∙◌, subst, arith}
 use Rattle.rv_model.specs.declared.stop.Stop.TheVariants.{TurnSpent}
 use Rattle.rv_model.specs.Exec.{Outcome, next_state, call_state, stop_state}
@@ -7,7 +8,7 @@ use Rattle.ce_model.specs.Space.{Space}
 use Rattle.ce_model.specs.Process.{moved_process}
 use Rattle.ce_model.specs.Node.{Turn, Node, process_at, with_process}
 use Rattle.ce_model.specs.Kernel.{CallOutcome, continuation, departure, turn_conclusion, kernel}
-use Rattle.ce_model.specs.Saying.{Saying, idle_saying, after_call, after_instruction, instruction, turn_saying, saying_in, says}
+use Rattle.ce_model.specs.Saying.{Saying, idle_saying, saying_after_call, saying_after_instruction, instruction, turn_saying, saying_in, says}
 use Rattle.ce_model.specs.Sound.{IsSoundTurn}
 use Rattle.ce_solo.proofs.Windows.{IsSameHeld, same_held}
 use Rattle.ce_solo.proofs.Instructions.{IsLed, exec-led}
@@ -54,16 +55,16 @@ now_in_turn node turn well sound = record {
 -- what is said once a kernel call came to this
 call-said : (left : ℕ) (node : Node) (did : CallOutcome)
     → ((node' : Node) (turn' : Turn) → IsWell (Some turn') node' → IsSoundTurn turn' → IsSaid node' (turn_saying left node' turn'))
-    → IsDone node did → IsSaid node (after_call (turn_saying left) did)
+    → IsDone node did → IsSaid node (saying_after_call (turn_saying left) did)
 call-said left node (continuation node' turn') onward done =
     said-then (Some turn') node node' (turn_saying left node' turn') done.became (onward node' turn' done.became.well done.sound)
 call-said left node (departure node' call) onward done = record { leaves = done }
 call-said left node (turn_conclusion node') onward done = asks-said node node' done
 
-moved_in_turn : (node : Node) (turn : Turn) (left : ℕ) (regs : List ℕ) (pc : ℕ) (space : Space) → IsWell (Some turn) node → IsSoundTurn turn → left ≤ turn_instructions
-    → length regs ≡ length (process_at node turn.pid).regs → IsSameHeld (process_at node turn.pid).space space
-    → IsInItsTurn node (with_left left turn) (moved_process (process_at node turn.pid) regs pc space)
-moved_in_turn node turn left regs pc space well sound enough long held = record {
+moved_in_turn : (node : Node) (turn : Turn) (left : ℕ) (registers : List ℕ) (pc : ℕ) (space : Space) → IsWell (Some turn) node → IsSoundTurn turn → left ≤ turn_instructions
+    → length registers ≡ length (process_at node turn.pid).registers → IsSameHeld (process_at node turn.pid).space space
+    → IsInItsTurn node (with_left left turn) (moved_process (process_at node turn.pid) registers pc space)
+moved_in_turn node turn left registers pc space well sound enough long held = record {
   well = well-turn node turn left turn.calls well;
   sound = record { pid = sound.pid; instructions_left = enough; calls = sound.calls };
   registers = long ∙ (well.processes turn.pid sound.pid).registers;
@@ -73,17 +74,17 @@ moved_in_turn node turn left regs pc space well sound enough long held = record 
 
 instruction-said : (left : ℕ) (node : Node) (turn : Turn) (outcome : Outcome Space) → left ≤ turn_instructions
     → ((node' : Node) (turn' : Turn) → IsWell (Some turn') node' → IsSoundTurn turn' → IsSaid node' (turn_saying left node' turn'))
-    → IsWell (Some turn) node → IsSoundTurn turn → IsLed (process_at node turn.pid).regs (process_at node turn.pid).space outcome
-    → IsSaid node (after_instruction (turn_saying left) left node turn (process_at node turn.pid) outcome)
-instruction-said left node turn (next_state regs pc space) enough onward well sound led =
-    let c = moved_in_turn node turn left regs pc space well sound enough led.0 led.1 in
-    let p = moved_process (process_at node turn.pid) regs pc space in
+    → IsWell (Some turn) node → IsSoundTurn turn → IsLed (process_at node turn.pid).registers (process_at node turn.pid).space outcome
+    → IsSaid node (saying_after_instruction (turn_saying left) left node turn (process_at node turn.pid) outcome)
+instruction-said left node turn (next_state registers pc space) enough onward well sound led =
+    let c = moved_in_turn node turn left registers pc space well sound enough led.0 led.1 in
+    let p = moved_process (process_at node turn.pid) registers pc space in
     let went_on = goes-done node (with_left left turn) p c p node.store refl c.registers (in_turn-windows node (with_left left turn) p c) well.store (λ id. refl) in
     said-then (Some (with_left left turn)) node (with_process node turn.pid p) (turn_saying left (with_process node turn.pid p) turn) went_on.became
     (onward (with_process node turn.pid p) turn (well-turn (with_process node turn.pid p) (with_left left turn) turn.instructions_left turn.calls went_on.became.well) sound)
-instruction-said left node turn (call_state regs pc space) enough onward well sound led =
-    call-said left node (kernel node (with_left left turn) (moved_process (process_at node turn.pid) regs pc space)) onward
-    (kernel-done node (with_left left turn) (moved_process (process_at node turn.pid) regs pc space) (moved_in_turn node turn left regs pc space well sound enough led.0 led.1))
+instruction-said left node turn (call_state registers pc space) enough onward well sound led =
+    call-said left node (kernel node (with_left left turn) (moved_process (process_at node turn.pid) registers pc space)) onward
+    (kernel-done node (with_left left turn) (moved_process (process_at node turn.pid) registers pc space) (moved_in_turn node turn left registers pc space well sound enough led.0 led.1))
 instruction-said left node turn (stop_state cause) enough onward well sound led =
     asks-said node _ (stops-done node turn (process_at node turn.pid) (now_in_turn node turn well sound) cause)
 
@@ -94,7 +95,7 @@ runs-said zero node turn enough well sound =
 runs-said (suc left) node turn enough well sound =
     instruction-said left node turn (instruction (process_at node turn.pid)) (omega (arith, enough))
     (λ node' turn' well' sound'. runs-said left node' turn' (omega (arith, enough)) well' sound') well sound
-    (exec-led (process_at node turn.pid).regs (process_at node turn.pid).pc (process_at node turn.pid).space)
+    (exec-led (process_at node turn.pid).registers (process_at node turn.pid).pc (process_at node turn.pid).space)
 
 saying_in-said : (node : Node) (turn : Option Turn) → node.turn ≡ turn → IsWell turn node → IfSome turn IsSoundTurn → IsSaid node (saying_in node turn)
 saying_in-said node None none well sound = asks-said node node (record { became = became-same None node well; turn = none })

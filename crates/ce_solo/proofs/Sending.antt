@@ -14,9 +14,9 @@ use Rattle.ce_model.specs.Answers.{is_among}
 use Rattle.ce_model.specs.Cube.{Cube, IsCube}
 use Rattle.ce_model.specs.Sound.{IsHostItem, IsSoundHost, IsSoundRecord}
 use Rattle.ce_solo.proofs.Counting.{hit, count, count-nil, count-cons, sum_run, sum_run-same, sum_run-add, sum_run-zero, sum_run-at}
-use Rattle.ce_solo.proofs.Lists.{all-append, all-weaker, all-filter, all-filtered, all-both, all-map, pairwise-filter, appended, appended-is}
+use Rattle.ce_solo.proofs.Lists.{all-append, all-weaker, all-filter, all-filtered, all-both, all-map, pairwise-filter, with_appended, with_appended-is}
 use Rattle.ce_solo.proofs.Items.{AreRising}
-use Rattle.ce_solo.proofs.Records.{kept_with, HasStayedSound, keeps-same, AreNew, numbered-mails, keeps-start, keeps-kill}
+use Rattle.ce_solo.proofs.Records.{record_with, HasStayedSound, keeps-same, AreNew, numbered-mails, keeps-start, keeps-kill}
 
 -- ---- places
 
@@ -56,8 +56,8 @@ abbrev pub sent_ids : List Parcel → List BlockId
 sent_ids ps = map (λ p. p.block.id) ps
 
 -- those of these parcels that go to a node
-abbrev pub to_node : ℕ → List Parcel → List Parcel
-to_node r ps = filter (λ parcel. parcel.to.node == r) ps
+abbrev pub node_parcels : ℕ → List Parcel → List Parcel
+node_parcels r ps = filter (λ parcel. parcel.to.node == r) ps
 
 module _ (from : Place) (bytes : List ℕ) where
   pub from-count : (number : ℕ) (to : List (Place × BlockId)) → AllByRecursion (λ (p : Parcel). number ≤ p.number) (message_parcels from number bytes to)
@@ -94,7 +94,8 @@ rising-numbers : (ps : List Parcel) → ArePairwise (λ (p q : Parcel). p.number
 rising-numbers [] rising = tt
 rising-numbers (p ∷ ps) rising = (all-map (λ n. p.number < n) (λ (q : Parcel). q.number) ps rising.0, rising-numbers ps rising.1)
 
--- parcels of which each goes to a process of the cube or to its host, with rising numbers from the cube's count on
+-- parcels of which each goes to a process of the cube or to its host, with rising numbers from the
+-- cube's count on
 pub record AreSent (cube : Cube) (count count' : ℕ) (ps : List Parcel) : Type 0 where
   pub rising : ArePairwise (λ (p q : Parcel). p.number < q.number) ps
   pub from_count : AllByRecursion (λ (p : Parcel). count ≤ p.number) ps
@@ -130,13 +131,13 @@ module _ (cube : Cube) (number number' : ℕ) (ps : List Parcel) (of : IsCube cu
         | inr host ↦ host
       ]
 
-  pub sent-new : (r : ℕ) → r < 2 ^ cube.dim → AreNew number number' r (to_node r ps)
+  pub sent-new : (r : ℕ) → r < 2 ^ cube.dim → AreNew number number' r (node_parcels r ps)
   sent-new r below = record {
-    rising = rising-numbers (to_node r ps) (pairwise-filter (λ (p q : Parcel). p.number < q.number) (λ p. p.to.node == r) ps are.rising);
-    from_count = all-map (λ n. number ≤ n) (λ (p : Parcel). p.number) (to_node r ps) (all-filter (λ (p : Parcel). number ≤ p.number) (λ p. p.to.node == r) ps are.from_count);
-    below = all-map (λ n. n < number') (λ (p : Parcel). p.number) (to_node r ps) (all-filter (λ (p : Parcel). p.number < number') (λ p. p.to.node == r) ps are.below);
-    places = all-weaker (λ (p : Parcel). (IsTargetOf cube p.to) × ((p.to.node == r) ≡ true)) (λ p. (p.to.node ≡ r) × (p.to.pid < process_count)) (to_node r ps) (to_process r below)
-        (all-both (λ (p : Parcel). IsTargetOf cube p.to) (λ p. (p.to.node == r) ≡ true) (to_node r ps)
+    rising = rising-numbers (node_parcels r ps) (pairwise-filter (λ (p q : Parcel). p.number < q.number) (λ p. p.to.node == r) ps are.rising);
+    from_count = all-map (λ n. number ≤ n) (λ (p : Parcel). p.number) (node_parcels r ps) (all-filter (λ (p : Parcel). number ≤ p.number) (λ p. p.to.node == r) ps are.from_count);
+    below = all-map (λ n. n < number') (λ (p : Parcel). p.number) (node_parcels r ps) (all-filter (λ (p : Parcel). p.number < number') (λ p. p.to.node == r) ps are.below);
+    places = all-weaker (λ (p : Parcel). (IsTargetOf cube p.to) × ((p.to.node == r) ≡ true)) (λ p. (p.to.node ≡ r) × (p.to.pid < process_count)) (node_parcels r ps) (to_process r below)
+        (all-both (λ (p : Parcel). IsTargetOf cube p.to) (λ p. (p.to.node == r) ≡ true) (node_parcels r ps)
         (all-filter (λ (p : Parcel). IsTargetOf cube p.to) (λ p. p.to.node == r) ps are.targets) (all-filtered (λ (p : Parcel). p.to.node == r) ps));
   }
 
@@ -144,28 +145,28 @@ module _ (cube : Cube) (number number' : ℕ) (ps : List Parcel) (of : IsCube cu
   host_items [] all = tt
   host_items (q ∷ qs) all = (all.0, host_items qs all.1)
 
-  pub sent-host : (items : List Item) → IsSoundHost number items → IsSoundHost number' (appended items (map mail (to_node HOST ps)))
+  pub sent-host : (items : List Item) → IsSoundHost number items → IsSoundHost number' (with_appended items (map mail (node_parcels HOST ps)))
   sent-host items host =
-      subst (IsSoundHost number') (appended-is items (map mail (to_node HOST ps)))
+      subst (IsSoundHost number') (with_appended-is items (map mail (node_parcels HOST ps)))
       (record {
-        numbered = numbered-mails number number' HOST items (to_node HOST ps) are.more host.numbered
-            (rising-numbers (to_node HOST ps) (pairwise-filter (λ (p q : Parcel). p.number < q.number) (λ p. p.to.node == HOST) ps are.rising))
-            (all-map (λ n. number ≤ n) (λ (p : Parcel). p.number) (to_node HOST ps) (all-filter (λ (p : Parcel). number ≤ p.number) (λ p. p.to.node == HOST) ps are.from_count))
-            (all-map (λ n. n < number') (λ (p : Parcel). p.number) (to_node HOST ps) (all-filter (λ (p : Parcel). p.number < number') (λ p. p.to.node == HOST) ps are.below));
-        own = all-append IsHostItem items (map mail (to_node HOST ps)) host.own
-            (host_items (to_node HOST ps)
-            (all-weaker (λ (p : Parcel). (IsTargetOf cube p.to) × ((p.to.node == HOST) ≡ true)) (λ p. p.to ≡ host_place) (to_node HOST ps) to_host
-            (all-both (λ (p : Parcel). IsTargetOf cube p.to) (λ p. (p.to.node == HOST) ≡ true) (to_node HOST ps)
+        numbered = numbered-mails number number' HOST items (node_parcels HOST ps) are.more host.numbered
+            (rising-numbers (node_parcels HOST ps) (pairwise-filter (λ (p q : Parcel). p.number < q.number) (λ p. p.to.node == HOST) ps are.rising))
+            (all-map (λ n. number ≤ n) (λ (p : Parcel). p.number) (node_parcels HOST ps) (all-filter (λ (p : Parcel). number ≤ p.number) (λ p. p.to.node == HOST) ps are.from_count))
+            (all-map (λ n. n < number') (λ (p : Parcel). p.number) (node_parcels HOST ps) (all-filter (λ (p : Parcel). p.number < number') (λ p. p.to.node == HOST) ps are.below));
+        own = all-append IsHostItem items (map mail (node_parcels HOST ps)) host.own
+            (host_items (node_parcels HOST ps)
+            (all-weaker (λ (p : Parcel). (IsTargetOf cube p.to) × ((p.to.node == HOST) ≡ true)) (λ p. p.to ≡ host_place) (node_parcels HOST ps) to_host
+            (all-both (λ (p : Parcel). IsTargetOf cube p.to) (λ p. (p.to.node == HOST) ≡ true) (node_parcels HOST ps)
             (all-filter (λ (p : Parcel). IsTargetOf cube p.to) (λ p. p.to.node == HOST) ps are.targets) (all-filtered (λ (p : Parcel). p.to.node == HOST) ps))));
       })
 
 -- each parcel goes to one node or to the host
 one_to : (id : BlockId) (r : ℕ) (p : Parcel) (ps : List Parcel)
-    → count id (sent_ids (to_node r (p ∷ ps))) ≡ (if p.to.node == r then hit id p.block.id else 0) + count id (sent_ids (to_node r ps))
+    → count id (sent_ids (node_parcels r (p ∷ ps))) ≡ (if p.to.node == r then hit id p.block.id else 0) + count id (sent_ids (node_parcels r ps))
 one_to id r p ps = by_test (p.to.node == r)
   where
-    by_test : (b : Bool) → count id (sent_ids (if b then p ∷ to_node r ps else to_node r ps)) ≡ (if b then hit id p.block.id else 0) + count id (sent_ids (to_node r ps))
-    by_test true = count-cons id p.block.id (sent_ids (to_node r ps))
+    by_test : (b : Bool) → count id (sent_ids (if b then p ∷ node_parcels r ps else node_parcels r ps)) ≡ (if b then hit id p.block.id else 0) + count id (sent_ids (node_parcels r ps))
+    by_test true = count-cons id p.block.id (sent_ids (node_parcels r ps))
     by_test false = omega arith
 
 if_true : (b : Bool) (n : ℕ) → b ≡ true → (if b then n else 0) ≡ n
@@ -175,14 +176,14 @@ if_false : (b : Bool) (n : ℕ) → b ≡ false → (if b then n else 0) ≡ 0
 if_false b n f = ap {B = ℕ} (λ b. if b then n else 0) f
 
 pub sent-sum : (cube : Cube) (id : BlockId) (ps : List Parcel) → IsCube cube → AllByRecursion (λ (p : Parcel). IsTargetOf cube p.to) ps
-    → sum_run (λ r. count id (sent_ids (to_node r ps))) 0 (2 ^ cube.dim) + count id (sent_ids (to_node HOST ps)) ≡ count id (sent_ids ps)
+    → sum_run (λ r. count id (sent_ids (node_parcels r ps))) 0 (2 ^ cube.dim) + count id (sent_ids (node_parcels HOST ps)) ≡ count id (sent_ids ps)
 sent-sum cube id [] of all = omega (arith, sum_run-zero (λ r. count id []) 0 (2 ^ cube.dim) (λ k low high. count-nil id), count-nil id)
 sent-sum cube id (p ∷ ps) of all =
     let n = 2 ^ cube.dim in
     let here = λ (r : ℕ). if p.to.node == r then hit id p.block.id else 0 in
     let rest = sent-sum cube id ps of all.1 in
-    let split = sum_run-same (λ r. count id (sent_ids (to_node r (p ∷ ps)))) (λ r. here r + count id (sent_ids (to_node r ps))) 0 n (λ r low high. one_to id r p ps) in
-    let added = sum_run-add here (λ r. count id (sent_ids (to_node r ps))) 0 n in
+    let split = sum_run-same (λ r. count id (sent_ids (node_parcels r (p ∷ ps)))) (λ r. here r + count id (sent_ids (node_parcels r ps))) 0 n (λ r low high. one_to id r p ps) in
+    let added = sum_run-add here (λ r. count id (sent_ids (node_parcels r ps))) 0 n in
     elim all.0 [
       | inl place ↦
           let below = (place_parts cube.dim p.to place).0 in
@@ -207,21 +208,21 @@ sent-sum cube id (p ∷ ps) of all =
 -- ---- a start and a kill
 
 -- a start of a fresh id comes to its node, and to no other
-pub start-keeps : (cube : Cube) (sent r image : ℕ) (to : Place) (kept : NodeRecord) (mark : Mark) (b : Bool) → IsSoundRecord cube sent r kept
-    → (b ≡ true → is_among to.pid kept.spawned_ids ≡ false) → to.pid < process_count → image < length cube.images
-    → HasStayedSound cube (sent + 0) r kept
-    (kept_with (appended kept.waiting_items ((if b then start to.pid image ∷ [] else []) ++ [])) (appended kept.spawned_ids (map item_id (if b then start to.pid image ∷ [] else []))) kept.killed_ids mark) [] []
-start-keeps cube sent r image to kept mark true sound fresh within of_cube =
-    subst (λ n. HasStayedSound cube n r kept (kept_with (kept.waiting_items ++ start to.pid image ∷ []) (kept.spawned_ids ++ to.pid ∷ []) kept.killed_ids mark) [] []) (omega arith)
-    (keeps-start cube sent r to.pid image kept mark sound (fresh refl) within of_cube)
-start-keeps cube sent r image to kept mark false sound fresh within of_cube = keeps-same cube sent (sent + 0) r kept mark (omega arith) sound
+pub start-keeps : (cube : Cube) (sent r image : ℕ) (to : Place) (node_record : NodeRecord) (mark : Mark) (b : Bool) → IsSoundRecord cube sent r node_record
+    → (b ≡ true → is_among to.pid node_record.spawned_ids ≡ false) → to.pid < process_count → image < length cube.images
+    → HasStayedSound cube (sent + 0) r node_record
+    (record_with (with_appended node_record.waiting_items ((if b then start to.pid image ∷ [] else []) ++ [])) (with_appended node_record.spawned_ids (map item_id (if b then start to.pid image ∷ [] else []))) node_record.killed_ids mark) [] []
+start-keeps cube sent r image to node_record mark true sound fresh within of_cube =
+    subst (λ n. HasStayedSound cube n r node_record (record_with (node_record.waiting_items ++ start to.pid image ∷ []) (node_record.spawned_ids ++ to.pid ∷ []) node_record.killed_ids mark) [] []) (omega arith)
+    (keeps-start cube sent r to.pid image node_record mark sound (fresh refl) within of_cube)
+start-keeps cube sent r image to node_record mark false sound fresh within of_cube = keeps-same cube sent (sent + 0) r node_record mark (omega arith) sound
 
 -- so does an accepted kill
-pub kill-keeps : (cube : Cube) (sent r : ℕ) (to : Place) (kept : NodeRecord) (mark : Mark) (b : Bool) → IsSoundRecord cube sent r kept
-    → (b ≡ true → is_among to.pid kept.spawned_ids ≡ true) → (b ≡ true → is_among to.pid kept.killed_ids ≡ false)
-    → HasStayedSound cube (sent + 0) r kept
-    (kept_with (appended kept.waiting_items ((if b then kill to.pid ∷ [] else []) ++ [])) kept.spawned_ids (appended kept.killed_ids (map item_id (if b then kill to.pid ∷ [] else []))) mark) [] []
-kill-keeps cube sent r to kept mark true sound known fresh =
-    subst (λ n. HasStayedSound cube n r kept (kept_with (kept.waiting_items ++ kill to.pid ∷ []) kept.spawned_ids (kept.killed_ids ++ to.pid ∷ []) mark) [] []) (omega arith)
-    (keeps-kill cube sent r to.pid kept mark sound (known refl) (fresh refl))
-kill-keeps cube sent r to kept mark false sound known fresh = keeps-same cube sent (sent + 0) r kept mark (omega arith) sound
+pub kill-keeps : (cube : Cube) (sent r : ℕ) (to : Place) (node_record : NodeRecord) (mark : Mark) (b : Bool) → IsSoundRecord cube sent r node_record
+    → (b ≡ true → is_among to.pid node_record.spawned_ids ≡ true) → (b ≡ true → is_among to.pid node_record.killed_ids ≡ false)
+    → HasStayedSound cube (sent + 0) r node_record
+    (record_with (with_appended node_record.waiting_items ((if b then kill to.pid ∷ [] else []) ++ [])) node_record.spawned_ids (with_appended node_record.killed_ids (map item_id (if b then kill to.pid ∷ [] else []))) mark) [] []
+kill-keeps cube sent r to node_record mark true sound known fresh =
+    subst (λ n. HasStayedSound cube n r node_record (record_with (node_record.waiting_items ++ kill to.pid ∷ []) node_record.spawned_ids (node_record.killed_ids ++ to.pid ∷ []) mark) [] []) (omega arith)
+    (keeps-kill cube sent r to.pid node_record mark sound (known refl) (fresh refl))
+kill-keeps cube sent r to node_record mark false sound known fresh = keeps-same cube sent (sent + 0) r node_record mark (omega arith) sound

@@ -1,4 +1,5 @@
--- What a trace leaves: by one entry more, the state behind it; so a trace from a sound state leaves a sound state.
+-- What a trace leaves: by one entry more, the state behind it; so a trace from a sound state leaves
+-- a sound state.
 use Rattle.std.proofs.Common.{◌≡◌, ℕ, ◌+◌, ◌^◌, ◌<◌, ◌≤◌, Bool, true, false, ◌==◌, if◌then◌else◌, List, [], ◌∷◌, ◌++◌, find, filter, length, Option, Some, None, option_map, option_and_then, refl, ap, sym, ◌∙◌, subst, arith, append-nil}
 use Rattle.std.specs.List.{AllByRecursion}
 use Rattle.std.proofs.lemmas.Bool.{eqb-true, or_left}
@@ -12,13 +13,13 @@ use Rattle.ce_model.specs.Parcels.{Item, is_eligible, take_result_of}
 use Rattle.ce_model.specs.Node.{Call, take_call, send_call, spawn_call, kill_call, note_call, arm_call, look_call, mail_call}
 use Rattle.ce_model.specs.Trace.{Mark, NodeRecord, Standing, items_to, taken_result, start_ids_in, kill_ids_in, sent_parcels, sent_items, taken_results, waiting_items, spawned_ids, killed_ids, mark, allowed_dispatches, made_dispatches, parcels}
 use Rattle.ce_model.specs.Answers.{is_among, offer_of, is_used_up, first_number, answer}
-use Rattle.ce_model.specs.Cube.{Cube, CubeState, IsCube, HostCall, host_call, host_call_of, state, hoststore, state_after_trace, entry_host_call, IsNext, IsAloneFrom, node_numbers}
+use Rattle.ce_model.specs.Cube.{Cube, CubeState, IsCube, Wish, call_of_wish, wish_of_call, state, hoststore, state_after_trace, entry_wish, IsNext, IsAloneFrom, node_numbers}
 use Rattle.ce_model.specs.Sound.{IsSound}
 use Rattle.ce_model.proofs.Walked.{kept_by_each, each_of_front}
 use Rattle.ce_model.proofs.OneMore.{taken_for, is_untaken, spawned-more, killed-more, armed-more, dispatched-more, mark-more, parcel_count-more, taken_results-stays, taken_results-more, waiting-stays, waiting-taken, state-more, hoststore-more}
-use Rattle.ce_model.proofs.AloneByEntries.{host_call-wish, is_made, entries_of_alone}
-use Rattle.ce_solo.proofs.Lists.{all-append, all-weaker, filter-kept, appended, appended-is}
-use Rattle.ce_solo.proofs.Records.{kept_with}
+use Rattle.ce_model.proofs.AloneByEntries.{call_of_wish-wish, is_made, entries_of_alone}
+use Rattle.ce_solo.proofs.Lists.{all-append, all-weaker, filter-kept, with_appended, with_appended-is}
+use Rattle.ce_solo.proofs.Records.{record_with}
 use Rattle.ce_solo.proofs.Entries.{waiting_after, state_after, entry_in}
 use Rattle.ce_solo.proofs.Made.{IsMadeCall, by_host, by_node, made, made-leaves, made-sound, items-new, IsKnown, new-untaken, taking-sends_none, known_items, find-all, known_given, known_first}
 use Rattle.ce_model.specs.declared.entry.What.TheVariants.{Take}
@@ -32,13 +33,13 @@ taken_result-of actor r what given e = by_test (actor == r) refl e
     by_test true is e = (is, e)
     by_test false is e = absurd (cc)
 
-asked_call : (cube : Cube) (s : CubeState) (wish : Option HostCall) (call : Call) → option_and_then (host_call cube s.hoststore) wish ≡ Some call → host_call_of call ≡ wish
+asked_call : (cube : Cube) (s : CubeState) (wish : Option Wish) (call : Call) → option_and_then (call_of_wish cube s.hoststore) wish ≡ Some call → wish_of_call call ≡ wish
 asked_call cube s None call e = absurd (cc)
-asked_call cube s (Some wish) call e = host_call-wish cube s.hoststore wish call e
+asked_call cube s (Some wish) call e = call_of_wish-wish cube s.hoststore wish call e
 
-pub no_take : (cube : Cube) (s : CubeState) (wish : Option HostCall) (call : Call) → host_call_of call ≡ None → option_and_then (host_call cube s.hoststore) wish ≡ Some call → ⊥
+pub no_take : (cube : Cube) (s : CubeState) (wish : Option Wish) (call : Call) → wish_of_call call ≡ None → option_and_then (call_of_wish cube s.hoststore) wish ≡ Some call → ⊥
 no_take cube s None call none e = cc
-no_take cube s (Some wish) call none e = let is = host_call-wish cube s.hoststore wish call e in cc
+no_take cube s (Some wish) call none e = let is = call_of_wish-wish cube s.hoststore wish call e in cc
 
 module _ (cube : Cube) (s : CubeState) (of : IsCube cube) (sound : IsSound cube s) where
   abbrev sent : ℕ
@@ -52,7 +53,7 @@ module _ (cube : Cube) (s : CubeState) (of : IsCube cube) (sound : IsSound cube 
       (λ item found. find-all (λ item. IsKnown sent (s.standing.node_record r) (take_result_of item)) (is_eligible asking dead) (s.standing.node_record r).waiting_items item
       (known_items cube sent r (s.standing.node_record r) (s.standing.node_record r).waiting_items (sound.records r below).own (sound.records r below).numbered.below) found) e
 
-  known_by : (actor r : ℕ) (wish : Option HostCall) (call : Call) (given : TakeResult) → actor ≡ r → IsMadeCall cube s actor wish call
+  known_by : (actor r : ℕ) (wish : Option Wish) (call : Call) (given : TakeResult) → actor ≡ r → IsMadeCall cube s actor wish call
       → taken_result (answer (node_numbers cube.dim) s.standing actor call) ≡ Some given → IsKnown sent (s.standing.node_record r) given
   unfolding answer
   known_by actor r wish (take_call asking dead poller) given same (by_host is e) t = absurd (no_take cube s wish (take_call asking dead poller) refl e)
@@ -70,24 +71,24 @@ module _ (cube : Cube) (s : CubeState) (of : IsCube cube) (sound : IsSound cube 
       (ap (λ q. option_map (λ n. Mail 0 n) (first_number (s.standing.node_record q).waiting_items)) (sym is) ∙ t))
   known_by actor r wish mail_call given same (by_node below e) t = absurd (made-leaves cube s actor mail_call of below sound e).of_node
 
-  pub taken-known : (actor r : ℕ) (wish : Option HostCall) (call : Call) (given : TakeResult) → IsMadeCall cube s actor wish call
+  pub taken-known : (actor r : ℕ) (wish : Option Wish) (call : Call) (given : TakeResult) → IsMadeCall cube s actor wish call
       → taken_for r (entry_in cube s actor call) ≡ Some given → IsKnown sent (s.standing.node_record r) given
   taken-known actor r wish call given m t =
       let parts = taken_result-of actor r (taken_result (entry_in cube s actor call).what) given t in
       known_by actor r wish call given (eqb-true actor r parts.0) m parts.1
 
 -- what is known stays known
-among-joined : (pid : ℕ) (xs ys : List ℕ) → is_among pid xs ≡ true → is_among pid (appended xs ys) ≡ true
-among-joined pid xs ys h = ap (is_among pid) (sym (appended-is xs ys)) ∙ (list_any-append (λ x. x == pid) xs ys ∙ or_left _ _ h)
+among-joined : (pid : ℕ) (xs ys : List ℕ) → is_among pid xs ≡ true → is_among pid (with_appended xs ys) ≡ true
+among-joined pid xs ys h = ap (is_among pid) (sym (with_appended-is xs ys)) ∙ (list_any-append (λ x. x == pid) xs ys ∙ or_left _ _ h)
 
-pub known-more : (sent sent' : ℕ) (kept : NodeRecord) (waiting_items : List Item) (more_spawned more_killed : List ℕ) (mark : Mark) (given : TakeResult) → sent ≤ sent' → IsKnown sent kept given
-    → IsKnown sent' (kept_with waiting_items (appended kept.spawned_ids more_spawned) (appended kept.killed_ids more_killed) mark) given
-known-more sent sent' kept waiting_items more_spawned more_killed mark (Start pid image) more h = among-joined pid kept.spawned_ids more_spawned h
-known-more sent sent' kept waiting_items more_spawned more_killed mark (Mail pid number) more h = omega (arith, h)
-known-more sent sent' kept waiting_items more_spawned more_killed mark (Kill pid) more h = among-joined pid kept.killed_ids more_killed h
-known-more sent sent' kept waiting_items more_spawned more_killed mark (Poll pid) more h = tt
-known-more sent sent' kept waiting_items more_spawned more_killed mark Idle more h = tt
-known-more sent sent' kept waiting_items more_spawned more_killed mark Spent more h = tt
+pub known-more : (sent sent' : ℕ) (node_record : NodeRecord) (waiting_items : List Item) (more_spawned more_killed : List ℕ) (mark : Mark) (given : TakeResult) → sent ≤ sent' → IsKnown sent node_record given
+    → IsKnown sent' (record_with waiting_items (with_appended node_record.spawned_ids more_spawned) (with_appended node_record.killed_ids more_killed) mark) given
+known-more sent sent' node_record waiting_items more_spawned more_killed mark (Start pid image) more h = among-joined pid node_record.spawned_ids more_spawned h
+known-more sent sent' node_record waiting_items more_spawned more_killed mark (Mail pid number) more h = omega (arith, h)
+known-more sent sent' node_record waiting_items more_spawned more_killed mark (Kill pid) more h = among-joined pid node_record.killed_ids more_killed h
+known-more sent sent' node_record waiting_items more_spawned more_killed mark (Poll pid) more h = tt
+known-more sent sent' node_record waiting_items more_spawned more_killed mark Idle more h = tt
+known-more sent sent' node_record waiting_items more_spawned more_killed mark Spent more h = tt
 
 -- ---- one entry more
 
@@ -100,7 +101,7 @@ waiting-more : (o : Standing) (r : ℕ) (t : List Entry) (entry : Entry) (taken 
     → AllByRecursion (λ item. is_untaken (taken_results r t) item ≡ true) (items_to r entry) → ((given : TakeResult) → taken ≡ Some given → items_to r entry ≡ [])
     → waiting_items o r (t ++ entry ∷ []) ≡ waiting_after taken (items_to r entry) (waiting_items o r t)
 waiting-more o r t entry None e new none =
-    waiting-stays o r t entry e ∙ ap (λ items. waiting_items o r t ++ items) (filter-kept (is_untaken (taken_results r t)) (items_to r entry) new) ∙ appended-is (waiting_items o r t) (items_to r entry)
+    waiting-stays o r t entry e ∙ ap (λ items. waiting_items o r t ++ items) (filter-kept (is_untaken (taken_results r t)) (items_to r entry) new) ∙ with_appended-is (waiting_items o r t) (items_to r entry)
 waiting-more o r t entry (Some given) e new none = waiting-taken o r t entry given e (none given refl)
 
 pub state_after_trace-more : (cube : Cube) (o : CubeState) (t : List Entry) (entry : Entry)
@@ -111,8 +112,8 @@ state_after_trace-more cube o t entry waits = λ i. record {
   standing = record {
     node_record = λ r. record {
       waiting_items = waits r i;
-      spawned_ids = (spawned-more o.standing r t entry ∙ appended-is (spawned_ids o.standing r t) (start_ids_in r entry.what)) i;
-      killed_ids = (killed-more o.standing r t entry ∙ appended-is (killed_ids o.standing r t) (kill_ids_in r entry.what)) i;
+      spawned_ids = (spawned-more o.standing r t entry ∙ with_appended-is (spawned_ids o.standing r t) (start_ids_in r entry.what)) i;
+      killed_ids = (killed-more o.standing r t entry ∙ with_appended-is (killed_ids o.standing r t) (kill_ids_in r entry.what)) i;
       mark = mark-more o.standing r t entry i;
     };
     allowed_dispatches = armed-more o.standing t entry i;
@@ -125,15 +126,15 @@ state_after_trace-more cube o t entry waits = λ i. record {
 -- what an actor's next entry is made of, in the state that the trace leaves
 pub record IsEntryOf (cube : Cube) (s : CubeState) (entry : Entry) : Type 0 where
   pub actor : ℕ
-  pub wish : Option HostCall
+  pub wish : Option Wish
   pub call : Call
   pub by : IsMadeCall cube s actor wish call
   pub is : entry ≡ entry_in cube s actor call
 
 pub entry_of-next : (cube : Cube) (o : CubeState) (t : List Entry) (entry : Entry) → IsNext cube o t entry → IsEntryOf cube (state_after_trace cube o t) entry
 entry_of-next cube o t entry next =
-    let m = is_made cube o t entry.actor (entry_host_call entry) entry next in
-    record { actor = entry.actor; wish = entry_host_call entry; call = m.call; by = made cube (state_after_trace cube o t) entry.actor (entry_host_call entry) m.call m.made; is = m.is }
+    let m = is_made cube o t entry.actor (entry_wish entry) entry next in
+    record { actor = entry.actor; wish = entry_wish entry; call = m.call; by = made cube (state_after_trace cube o t) entry.actor (entry_wish entry) m.call m.made; is = m.is }
 
 pub waits-made : (cube : Cube) (o : CubeState) (t : List Entry) (actor : ℕ) (call : Call) → IsSoundTrace cube o t → (r : ℕ)
     → waiting_items o.standing r (t ++ entry_in cube (state_after_trace cube o t) actor call ∷ [])

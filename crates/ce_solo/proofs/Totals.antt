@@ -1,4 +1,5 @@
--- How often a block is held in a cube, as a sum over its nodes, its host's parcels and its host's store.
+-- How often a block is held in a cube, as a sum over its nodes, its host's parcels and its host's
+-- store.
 use Rattle.std.proofs.Common.{◌≡◌, ℕ, ◌+◌, ◌^◌, ◌<◌, ◌≤◌, List, [], ◌∷◌, ◌++◌, map, filter, filter_map, flat_map, length, count_by, Option, Some, None, option_map, refl, ap, ◌∙◌, arith, inl, inr}
 use Rattle.std.specs.List.{AllByRecursion, enumerate_from}
 use Rattle.std.proofs.lemmas.Bool.{cases_lt}
@@ -12,7 +13,7 @@ use Rattle.ce_model.specs.Space.{mapped_ids}
 use Rattle.ce_model.specs.Process.{Process}
 use Rattle.ce_model.specs.Node.{Node, blocks_of}
 use Rattle.ce_model.specs.Cube.{Cube, CubeState, node_numbers}
-use Rattle.ce_model.specs.Owners.{Holder, in_store, in_window, in_parcel, in_hoststore, held_by_process, held_by_node, held_by_parcels, holdings, holders, IsBlockOf, HasOneOwner}
+use Rattle.ce_model.specs.Owners.{Holder, store_holder, window_holder, parcel_holder, hoststore_holder, process_holdings, node_holdings, parcel_holdings, holdings, holders, IsBlockOf, HasOneOwner}
 use Rattle.ce_model.specs.Sound.{IsSound}
 use Rattle.ce_solo.proofs.Counting.{count, count-is, count-append, count-run, all-at_name, all-from_names, sum_run, sum_run-same, sum_run-part}
 use Rattle.ce_solo.proofs.Lists.{all-map, all-of_map, count_by-cons}
@@ -38,41 +39,41 @@ map-same [] = refl
 map-same (id ∷ ids) = ap (λ rest. id ∷ rest) (map-same ids)
 
 names-window : (r pid n : ℕ) (windows : List (Option Block))
-    → names (filter_map (λ (window : ℕ × Option Block). option_map (λ block. (in_window r pid window.0, block.id)) window.1) (enumerate_from n windows)) ≡ ids_at windows
+    → names (filter_map (λ (window : ℕ × Option Block). option_map (λ block. (window_holder r pid window.0, block.id)) window.1) (enumerate_from n windows)) ≡ ids_at windows
 names-window r pid n [] = refl
 names-window r pid n (None ∷ windows) = names-window r pid (n + 1) windows
 names-window r pid n (Some block ∷ windows) = ap (λ ids. block.id ∷ ids) (names-window r pid (n + 1) windows)
 
-names-processes : (r n : ℕ) (ps : List Process) → names (flat_map (held_by_process r) (enumerate_from n ps)) ≡ flat_map (λ p. mapped_ids p.space) ps
+names-processes : (r n : ℕ) (ps : List Process) → names (flat_map (process_holdings r) (enumerate_from n ps)) ≡ flat_map (λ p. mapped_ids p.space) ps
 names-processes r n [] = refl
 names-processes r n (p ∷ ps) =
-    names-append (held_by_process r (n, p)) (flat_map (held_by_process r) (enumerate_from (n + 1) ps))
-    ∙ ap (λ ids. ids ++ names (flat_map (held_by_process r) (enumerate_from (n + 1) ps))) (names-window r n 0 p.space.windows)
+    names-append (process_holdings r (n, p)) (flat_map (process_holdings r) (enumerate_from (n + 1) ps))
+    ∙ ap (λ ids. ids ++ names (flat_map (process_holdings r) (enumerate_from (n + 1) ps))) (names-window r n 0 p.space.windows)
     ∙ ap (λ ids. mapped_ids p.space ++ ids) (names-processes r (n + 1) ps)
 
-names-node : (r : ℕ) (node : Node) → names (held_by_node r node) ≡ blocks_of node
+names-node : (r : ℕ) (node : Node) → names (node_holdings r node) ≡ blocks_of node
 names-node r node =
-    names-append (map (λ id. (in_store r, id)) node.store) (flat_map (held_by_process r) (enumerate_from 0 node.processes))
-    ∙ ap (λ ids. ids ++ names (flat_map (held_by_process r) (enumerate_from 0 node.processes))) (names-with (λ id. in_store r) (λ id. id) node.store ∙ map-same node.store)
+    names-append (map (λ id. (store_holder r, id)) node.store) (flat_map (process_holdings r) (enumerate_from 0 node.processes))
+    ∙ ap (λ ids. ids ++ names (flat_map (process_holdings r) (enumerate_from 0 node.processes))) (names-with (λ id. store_holder r) (λ id. id) node.store ∙ map-same node.store)
     ∙ ap (λ ids. node.store ++ ids) (names-processes r 0 node.processes)
 
-names-parcels : (r : ℕ) (items : List Item) → names (held_by_parcels r items) ≡ parcel_ids items
-names-parcels r items = names-with (λ (parcel : Parcel). in_parcel r parcel.number) (λ parcel. parcel.block.id) (item_parcels items)
+names-parcels : (r : ℕ) (items : List Item) → names (parcel_holdings r items) ≡ parcel_ids items
+names-parcels r items = names-with (λ (parcel : Parcel). parcel_holder r parcel.number) (λ parcel. parcel.block.id) (item_parcels items)
 
 -- how often a block is at a node: in its store, its windows, and the parcels that wait there
-unfoldable pub at_node : BlockId → CubeState → ℕ → ℕ
-at_node id s r = count id (blocks_of (s.node r)) + count id (parcel_ids (s.standing.node_record r).waiting_items)
+unfoldable pub count_at_node : BlockId → CubeState → ℕ → ℕ
+count_at_node id s r = count id (blocks_of (s.node r)) + count id (parcel_ids (s.standing.node_record r).waiting_items)
 
-pub at_node-is : (id : BlockId) (s : CubeState) (r : ℕ) → at_node id s r ≡ count id (blocks_of (s.node r)) + count id (parcel_ids (s.standing.node_record r).waiting_items)
-unfolding at_node
-at_node-is id s r = refl
+pub count_at_node-is : (id : BlockId) (s : CubeState) (r : ℕ) → count_at_node id s r ≡ count id (blocks_of (s.node r)) + count id (parcel_ids (s.standing.node_record r).waiting_items)
+unfolding count_at_node
+count_at_node-is id s r = refl
 
 -- how often it is in the cube
 unfoldable pub total : BlockId → ℕ → CubeState → ℕ
-total id dim s = sum_run (at_node id s) 0 (2 ^ dim) + count id (parcel_ids (s.standing.node_record HOST).waiting_items) + count id s.hoststore
+total id dim s = sum_run (count_at_node id s) 0 (2 ^ dim) + count id (parcel_ids (s.standing.node_record HOST).waiting_items) + count id s.hoststore
 
 pub total-is : (id : BlockId) (dim : ℕ) (s : CubeState)
-    → total id dim s ≡ sum_run (at_node id s) 0 (2 ^ dim) + count id (parcel_ids (s.standing.node_record HOST).waiting_items) + count id s.hoststore
+    → total id dim s ≡ sum_run (count_at_node id s) 0 (2 ^ dim) + count id (parcel_ids (s.standing.node_record HOST).waiting_items) + count id s.hoststore
 unfolding total
 total-is id dim s = refl
 
@@ -82,15 +83,15 @@ names-flat f (r ∷ rs) = names-append (f r) (flat_map f rs) ∙ ap (λ ids. nam
 
 -- what a node and the parcels that wait there hold
 abbrev at : CubeState → ℕ → List HeldName
-at s r = held_by_node r (s.node r) ++ held_by_parcels r (s.standing.node_record r).waiting_items
+at s r = node_holdings r (s.node r) ++ parcel_holdings r (s.standing.node_record r).waiting_items
 
-count-at : (id : BlockId) (s : CubeState) (r : ℕ) → count id (names (at s r)) ≡ at_node id s r
-unfolding at_node
+count-at : (id : BlockId) (s : CubeState) (r : ℕ) → count id (names (at s r)) ≡ count_at_node id s r
+unfolding count_at_node
 count-at id s r =
     omega (
       arith,
-      ap (count id) (names-append (held_by_node r (s.node r)) (held_by_parcels r (s.standing.node_record r).waiting_items)),
-      count-append id (names (held_by_node r (s.node r))) (names (held_by_parcels r (s.standing.node_record r).waiting_items)),
+      ap (count id) (names-append (node_holdings r (s.node r)) (parcel_holdings r (s.standing.node_record r).waiting_items)),
+      count-append id (names (node_holdings r (s.node r))) (names (parcel_holdings r (s.standing.node_record r).waiting_items)),
       ap (count id) (names-node r (s.node r)),
       ap (count id) (names-parcels r (s.standing.node_record r).waiting_items),
     )
@@ -99,11 +100,11 @@ pub names-total : (id : BlockId) (dim : ℕ) (s : CubeState) → count id (names
 unfolding total holdings
 names-total id dim s =
     let nodes = flat_map (at s) (node_numbers dim) in
-    let parcels = held_by_parcels HOST (s.standing.node_record HOST).waiting_items in
-    let store : List HeldName = map (λ id. (in_hoststore, id)) s.hoststore in
-    let of_nodes : count id (names nodes) ≡ sum_run (at_node id s) 0 (2 ^ dim) =
+    let parcels = parcel_holdings HOST (s.standing.node_record HOST).waiting_items in
+    let store : List HeldName = map (λ id. (hoststore_holder, id)) s.hoststore in
+    let of_nodes : count id (names nodes) ≡ sum_run (count_at_node id s) 0 (2 ^ dim) =
     ap (count id) (names-flat (at s) (node_numbers dim)) ∙ count-run id (λ r. names (at s r)) 0 (2 ^ dim)
-    ∙ sum_run-same (λ r. count id (names (at s r))) (at_node id s) 0 (2 ^ dim) (λ r low high. count-at id s r) in
+    ∙ sum_run-same (λ r. count id (names (at s r))) (count_at_node id s) 0 (2 ^ dim) (λ r low high. count-at id s r) in
     omega (
       arith,
       of_nodes,
@@ -112,7 +113,7 @@ names-total id dim s =
       ap (count id) (names-append nodes parcels),
       count-append id (names nodes) (names parcels),
       ap (count id) (names-parcels HOST (s.standing.node_record HOST).waiting_items),
-      ap (count id) (names-with (λ (id : BlockId). in_hoststore) (λ id. id) s.hoststore ∙ map-same s.hoststore),
+      ap (count id) (names-with (λ (id : BlockId). hoststore_holder) (λ id. id) s.hoststore ∙ map-same s.hoststore),
     )
 
 count_by-names : (id : BlockId) (held : List HeldName) → count_by (λ holding. is_same_id id holding.1) held ≡ count_by (is_same_id id) (names held)
@@ -140,9 +141,9 @@ total-le cube s id sound =
           omega (arith, sound.owners id of_cube, holders-total id cube.dim s)
     ]
 
-pub at_node-le : (cube : Cube) (s : CubeState) (r : ℕ) (id : BlockId) → IsSound cube s → r < 2 ^ cube.dim → at_node id s r ≤ 1
+pub at_node-le : (cube : Cube) (s : CubeState) (r : ℕ) (id : BlockId) → IsSound cube s → r < 2 ^ cube.dim → count_at_node id s r ≤ 1
 at_node-le cube s r id sound below =
-    omega (arith, total-le cube s id sound, total-is id cube.dim s, sum_run-part (at_node id s) r 0 (2 ^ cube.dim) (omega arith) (omega arith))
+    omega (arith, total-le cube s id sound, total-is id cube.dim s, sum_run-part (count_at_node id s) r 0 (2 ^ cube.dim) (omega arith) (omega arith))
 
 -- where each block is as often as before, each has one owner as before, and there are no others
 pub owners-kept : (cube : Cube) (s s' : CubeState) → IsSound cube s → ((id : BlockId) → total id cube.dim s' ≡ total id cube.dim s) → HasOneOwner cube.dim s'

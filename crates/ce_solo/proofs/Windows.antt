@@ -10,7 +10,7 @@ use Rattle.rv_model.specs.declared.stop.Stop.TheVariants.{Misaligned, Unmapped, 
 use Rattle.ce_model.specs.declared.topology.BlockId.{BlockId}
 use Rattle.ce_model.specs.Blocks.{Block}
 use Rattle.ce_model.specs.Limits.{window_base}
-use Rattle.ce_model.specs.Space.{Space, window_of, offset_of, mapped_space, mapped_ids, AccessSite, in_private, in_block, site_in, access_site, with_number_in, result_map, stored_at, block_at_window, is_window_start, block_named}
+use Rattle.ce_model.specs.Space.{Space, window_of, offset_of, mapped_space, mapped_ids, AccessSite, private_site, block_site, site_in, access_site, with_number_in, result_map, store_result, block_at_window, is_window_start, block_named}
 use Rattle.ce_solo.proofs.Counting.{hit, count, count-nil, count-cons}
 
 -- the names of the blocks at these windows
@@ -61,28 +61,28 @@ same_held space = record { ids = refl; windows = refl }
 
 -- a spot in a block is in one at a window
 abbrev pub IsSpotOf : Space → AccessSite → Type 0
-IsSpotOf space (in_private offset) = Unit {0}
-IsSpotOf space (in_block k block offset) = slice_get space.windows k ≡ Some (Some block)
+IsSpotOf space (private_site offset) = Unit {0}
+IsSpotOf space (block_site k block offset) = slice_get space.windows k ≡ Some (Some block)
 
 spot_in-of : (space : Space) (a size : ℕ) (at : Option (Option Block)) → slice_get space.windows (window_of a) ≡ at
     → IfOk (site_in at a size) (IsSpotOf space)
 spot_in-of space a size None e = tt
 spot_in-of space a size (Some None) e = tt
 spot_in-of space a size (Some (Some block)) e =
-    cond_both (nat_le (offset_of a + size) (length block.bytes)) (Ok (in_block (window_of a) block (offset_of a))) _ (λ r. IfOk r (IsSpotOf space))
+    cond_both (nat_le (offset_of a + size) (length block.bytes)) (Ok (block_site (window_of a) block (offset_of a))) _ (λ r. IfOk r (IsSpotOf space))
     (λ t. e) (λ f. tt)
 
 pub spot-of : (space : Space) (a size : ℕ) → IfOk (access_site space a size) (IsSpotOf space)
 unfolding access_site
 spot-of space a size =
     cond_both (not (a % size == 0)) (Err (Misaligned a)) _ (λ r. IfOk r (IsSpotOf space)) (λ t. tt)
-    (λ f. cond_both (is_private a) (Ok (in_private (a - PRIVATE_START))) _ (λ r. IfOk r (IsSpotOf space)) (λ t. tt)
+    (λ f. cond_both (is_private a) (Ok (private_site (a - PRIVATE_START))) _ (λ r. IfOk r (IsSpotOf space)) (λ t. tt)
     (λ g. cond_both (nat_lt a window_base) (Err (Unmapped a)) _ (λ r. IfOk r (IsSpotOf space)) (λ t. tt)
     (λ h. spot_in-of space a size (slice_get space.windows (window_of a)) refl)))
 
 written-held : (space : Space) (size n : ℕ) (access_site : AccessSite) → IsSpotOf space access_site → IsSameHeld space (with_number_in space size n access_site)
-written-held space size n (in_private offset) of = record { ids = refl; windows = refl }
-written-held space size n (in_block k block offset) of = record {
+written-held space size n (private_site offset) of = record { ids = refl; windows = refl }
+written-held space size n (block_site k block offset) of = record {
   ids = ids-written space.windows k block (with_number_at block.bytes offset size n) of;
   windows = length-set space.windows k (Some (record block { bytes = with_number_at block.bytes offset size n }));
 }
@@ -92,7 +92,7 @@ map_ok f (Ok x) P Q up p = up x p
 map_ok f (Err cause) P Q up p = tt
 
 -- a store leaves each block at its window
-pub stored-held : (space : Space) (a size n : ℕ) → IfOk (stored_at space a size n) (IsSameHeld space)
+pub stored-held : (space : Space) (a size n : ℕ) → IfOk (store_result space a size n) (IsSameHeld space)
 stored-held space a size n = map_ok (with_number_in space size n) (access_site space a size) (IsSpotOf space) (IsSameHeld space) (written-held space size n) (spot-of space a size)
 
 named_in-of : (space : Space) (p : ℕ) (at : Option (Option Block)) → slice_get space.windows (window_of p) ≡ at

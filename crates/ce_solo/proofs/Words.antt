@@ -11,7 +11,7 @@ use Rattle.ce_model.specs.Limits.{window_count, block_room}
 use Rattle.ce_model.specs.Blocks.{Block, with_id}
 use Rattle.ce_model.specs.Space.{window_start, has_unused_window, mapped_space, mapped_ids, block_named}
 use Rattle.ce_model.specs.Process.{Process, argument, with_answer, is_stopped}
-use Rattle.ce_model.specs.Node.{Turn, Node, process_at, is_place, with_stopped, Call, take_call, send_call, spawn_call, kill_call, note_call, take_of}
+use Rattle.ce_model.specs.Node.{Turn, Node, process_at, is_place, with_stopped_process, Call, take_call, send_call, spawn_call, kill_call, note_call, take_call_of}
 use Rattle.ce_model.specs.Kernel.{CallOutcome, continuation, departure, turn_conclusion, return_outcome, leave_outcome, read_outcome, with_space, process_left_behind, map_outcome, xmalloc, free_outcome, xfree, xlength, is_target, place_named, send_outcome, xsend}
 use Rattle.ce_model.specs.Sound.{is_unborn, is_running, is_polling, IsSoundTurn, AreInOrder}
 use Rattle.ce_solo.proofs.Counting.{hit-self, count, count-nil, count-one, count-cons, count-append, count-put, rising-put}
@@ -24,7 +24,7 @@ use Rattle.ce_solo.proofs.Nodes.{polls, IsWell, HasBecome, changed_to, change-be
 pub record IsInItsTurn (node : Node) (turn : Turn) (p : Process) : Type 0 where
   pub well : IsWell (Some turn) node
   pub sound : IsSoundTurn turn
-  pub registers : length p.regs ≡ REGISTER_COUNT
+  pub registers : length p.registers ≡ REGISTER_COUNT
   pub held : IsSameHeld (process_at node turn.pid).space p.space
   pub status : p.status ≡ (process_at node turn.pid).status
 
@@ -42,7 +42,7 @@ call_ids other = []
 
 -- a call that this node can make
 abbrev pub IsCallOf : Node → Call → Type 0
-IsCallOf node (take_call asking dead poller) = (take_call asking dead poller ≡ take_of node) × (node.turn ≡ None)
+IsCallOf node (take_call asking dead poller) = (take_call asking dead poller ≡ take_call_of node) × (node.turn ≡ None)
 IsCallOf node (send_call pid to bytes) = AllByRecursion (λ target. is_target node target.0 ≡ true) to
 IsCallOf node (spawn_call pid image to) = (image < node.images) × (is_place node.dim to ≡ true)
 IsCallOf node (kill_call pid to) = is_place node.dim to ≡ true
@@ -87,7 +87,7 @@ module _ (node : Node) (turn : Turn) (p : Process) (c : IsInItsTurn node turn p)
 
   -- the process runs on with other registers and another memory, and the store is as given
   pub runs-became : (turn' : Turn) (turn'' : Option Turn) (p' : Process) (store : List BlockId) (gone : List BlockId) → turn'.pid ≡ turn.pid
-      → p'.status ≡ p.status → length p'.regs ≡ REGISTER_COUNT → length p'.space.windows ≤ window_count → AreInOrder store
+      → p'.status ≡ p.status → length p'.registers ≡ REGISTER_COUNT → length p'.space.windows ≤ window_count → AreInOrder store
       → ((id : BlockId) → count id store + count id (mapped_ids p'.space) + count id gone ≡ count id node.store + count id (mapped_ids p.space))
       → HasBecome (Some turn') node (changed_to node turn.pid p' store node.polling_ids turn'') [] gone
   runs-became turn' turn'' p' store gone same status registers windows rising blocks =
@@ -113,7 +113,7 @@ module _ (node : Node) (turn : Turn) (p : Process) (c : IsInItsTurn node turn p)
       })
       (not_others.0 ∙ sym born_before) (λ h. absurd (both_ways _ going_before h))
 
-  pub goes-done : (p' : Process) (store : List BlockId) → p'.status ≡ p.status → length p'.regs ≡ REGISTER_COUNT → length p'.space.windows ≤ window_count
+  pub goes-done : (p' : Process) (store : List BlockId) → p'.status ≡ p.status → length p'.registers ≡ REGISTER_COUNT → length p'.space.windows ≤ window_count
       → AreInOrder store → ((id : BlockId) → count id store + count id (mapped_ids p'.space) ≡ count id node.store + count id (mapped_ids p.space))
       → IsGoingOn node (changed_to node turn.pid p' store node.polling_ids node.turn) turn
   goes-done p' store status registers windows rising blocks = record {
@@ -121,14 +121,14 @@ module _ (node : Node) (turn : Turn) (p : Process) (c : IsInItsTurn node turn p)
     sound = c.sound;
   }
 
-  answered_length : (value : ℕ) (q : Process) → length q.regs ≡ REGISTER_COUNT → length (with_answer value q).regs ≡ REGISTER_COUNT
-  answered_length value q h = length-set q.regs 10 value ∙ h
+  answered_length : (value : ℕ) (q : Process) → length q.registers ≡ REGISTER_COUNT → length (with_answer value q).registers ≡ REGISTER_COUNT
+  answered_length value q h = length-set q.registers 10 value ∙ h
 
   pub returns-done : (value : ℕ) → IsDone node (return_outcome node turn p value)
   returns-done value =
       goes-done (with_answer value p) node.store refl (answered_length value p c.registers) in_turn-windows c.well.store (λ id. refl)
 
-  pub leaves-done : (p' : Process) (store : List BlockId) (call : Call) → p'.status ≡ p.status → length p'.regs ≡ REGISTER_COUNT
+  pub leaves-done : (p' : Process) (store : List BlockId) (call : Call) → p'.status ≡ p.status → length p'.registers ≡ REGISTER_COUNT
       → length p'.space.windows ≤ window_count → AreInOrder store
       → ((id : BlockId) → count id store + count id (mapped_ids p'.space) + count id (call_ids call) ≡ count id node.store + count id (mapped_ids p.space))
       → IsCallOf (changed_to node turn.pid p' store node.polling_ids (Some turn)) call
@@ -139,7 +139,7 @@ module _ (node : Node) (turn : Turn) (p : Process) (c : IsInItsTurn node turn p)
     of_node = of_node;
   }
 
-  pub stops-done : (cause : Stop) → HasEndedTurn node (with_stopped node turn.pid p cause)
+  pub stops-done : (cause : Stop) → HasEndedTurn node (with_stopped_process node turn.pid p cause)
   stops-done cause = record {
     became = stop-became (Some turn) node turn.pid p cause c.well c.sound.pid c.registers in_turn-windows c.held
         (λ q differ. ne_eqb turn.pid q (λ e. differ (sym e))) born_before;

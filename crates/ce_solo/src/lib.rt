@@ -1,5 +1,6 @@
-//! The laws of a cube: what holds of every trace that a cube gives alone, and of every history of the machine. The laws
-//! are definitions in `specs/`; each is the contract of a function of the module `laws`.
+//! The laws of a cube: what holds of every trace that a cube gives alone, and of every history of
+//! the machine. The laws are definitions in `specs/`; each is the contract of a function of the
+//! module `laws`.
 #![tactic(auto)]
 
 mod laws;

@@ -7,18 +7,18 @@ use Rattle.ce_model.specs.Lists.{IsFront}
 use Rattle.ce_lock.specs.declared.who.Who.{Who}
 use Rattle.ce_lock.specs.Entries.{entries_of}
 use Rattle.ce_lock.specs.Meanings.{Meanings}
-use Rattle.ce_lock.specs.Sitting.{Sitting, BookFacts, IsSameSeat, IsNewHead, who, seen_history, earlier, mine, out}
+use Rattle.ce_lock.specs.Sitting.{SeatFacts, BookFacts, IsSameSeat, IsNewHead, who, seen_history, earlier, mine, out}
 use Rattle.ce_tally.specs.declared.tally.Addition.{Addition}
-use Rattle.ce_tally.specs.Rows.{IsOnly, HasAmong, HasAdded, IsFresh, additions_of}
+use Rattle.ce_tally.specs.Rows.{IsOnly, HasAddition, HasAdded, IsFreshHead, additions_of}
 
 module _ {O : Type 0} (book : BookFacts O) where
   -- a new head is fresh
-  pub fresh : {F : Type 0} (m : Meanings O Addition F) (family : ℕ) (s : Sitting O Addition) → IsNewHead m book family s → IsFresh book family s
+  pub fresh : {F : Type 0} (m : Meanings O Addition F) (family : ℕ) (s : SeatFacts O Addition) → IsNewHead m book family s → IsFreshHead book family s
   fresh m family s new = record { of_book = new.of_book; actor = new.actor; nobody_out = new.nobody_out; nothing_earlier = new.nothing_earlier; nothing_made = new.nothing_made }
 
   -- a fresh head has added its first number
-  pub added_first : (family number : ℕ) (s t : Sitting O Addition) (e : Addition)
-      → IsFresh book family s → IsSameSeat s t → out t ≡ out s → mine t ≡ mine s ++ e ∷ [] → e.number ≡ number → HasAdded book family number t
+  pub added_first : (family number : ℕ) (s t : SeatFacts O Addition) (e : Addition)
+      → IsFreshHead book family s → IsSameSeat s t → out t ≡ out s → mine t ≡ mine s ++ e ∷ [] → e.number ≡ number → HasAdded book family number t
   added_first family number s t e new same out_is mine_is number_is = record {
     of_book = same.name ∙ new.of_book;
     actor = same.actor ∙ new.actor;
@@ -28,7 +28,7 @@ module _ {O : Type 0} (book : BookFacts O) where
   }
 
   -- a seat that stays the same has still added it
-  pub still_added : (family number : ℕ) (s t : Sitting O Addition) → HasAdded book family number s → IsSameSeat s t → mine t ≡ mine s → out t ≡ out s → HasAdded book family number t
+  pub still_added : (family number : ℕ) (s t : SeatFacts O Addition) → HasAdded book family number s → IsSameSeat s t → mine t ≡ mine s → out t ≡ out s → HasAdded book family number t
   still_added family number s t h same mine_is out_is = record {
     of_book = same.name ∙ h.of_book;
     actor = same.actor ∙ h.actor;
@@ -38,7 +38,7 @@ module _ {O : Type 0} (book : BookFacts O) where
   }
 
   -- what it has added is all that its actor has in what it has seen
-  pub only_one : (family number : ℕ) (s : Sitting O Addition)
+  pub only_one : (family number : ℕ) (s : SeatFacts O Addition)
       → HasAdded book family number s → entries_of (λ (x : Addition). x.who) (who s) (seen_history s) ≡ earlier s ++ mine s → IsOnly number (additions_of family HOST (seen_history s))
   only_one family number s h own = record {
     entry = h.only.entry;
@@ -47,7 +47,7 @@ module _ {O : Type 0} (book : BookFacts O) where
   }
 
 -- an entry at the end of a front part is among all
-pub among : (family actor number : ℕ) (before h : List Addition) (e : Addition) (seen_by : List Addition) → seen_by ≡ before ++ e ∷ [] → IsFront seen_by h → e.who ≡ record { family = family; actor = actor } → e.number ≡ number → HasAmong family actor number h
+pub among : (family actor number : ℕ) (before h : List Addition) (e : Addition) (seen_by : List Addition) → seen_by ≡ before ++ e ∷ [] → IsFront seen_by h → e.who ≡ record { family = family; actor = actor } → e.number ≡ number → HasAddition family actor number h
 among family actor number before h e seen_by is p actor_is number_is = record {
   front = before;
   entry = e;
@@ -57,7 +57,7 @@ among family actor number before h e seen_by is p actor_is number_is = record {
   number_is = number_is;
 }
 
-pub still_among : (family actor number : ℕ) (h k : List Addition) → HasAmong family actor number h → IsFront h k → HasAmong family actor number k
+pub still_among : (family actor number : ℕ) (h k : List Addition) → HasAddition family actor number h → IsFront h k → HasAddition family actor number k
 still_among family actor number h k a p = record {
   front = a.front;
   entry = a.entry;
@@ -73,7 +73,7 @@ two_of items mid front a b p q count = let none : length front ≡ 0 = omega (ar
     p ∙ ap (λ (l : List _). l ++ b ∷ []) (q ∙ ap (λ (l : List _). l ++ a ∷ []) (nil_from_length front none))
 
 -- of two seats of families 0 and 1 one is of each family below 2
-pub family_there : {O E : Type 0} (a b : Sitting O E) (f : ℕ) → (who a).family ≡ 0 → (who b).family ≡ 1 → f < 2 → Contains (map (λ (s : Sitting O E). (who s).family) (a ∷ b ∷ [])) f
+pub family_there : {O E : Type 0} (a b : SeatFacts O E) (f : ℕ) → (who a).family ≡ 0 → (who b).family ≡ 1 → f < 2 → Contains (map (λ (s : SeatFacts O E). (who s).family) (a ∷ b ∷ [])) f
 family_there a b zero at_a at_b low = (0, omega arith, at_a)
 family_there a b (suc zero) at_a at_b low = (1, omega arith, at_b)
 family_there a b (suc (suc k)) at_a at_b low = absurd (omega (arith, low))

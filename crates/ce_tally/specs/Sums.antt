@@ -12,16 +12,18 @@ sum_from s (e ∷ es) = sum_from ((s + e.number) % 2 ^ 64) es
 -- each entry has the sum of those before it, where the first has s
 abbrev pub IsTallied : ℕ → List Addition → Type 0
 IsTallied s [] = Unit {0}
-IsTallied s (e ∷ es) = (e.before ≡ s) × IsTallied ((s + e.number) % 2 ^ 64) es
+IsTallied s (e ∷ es) = (e.sum_before ≡ s) × IsTallied ((s + e.number) % 2 ^ 64) es
 
 -- the entry is the actor's addition, and the reply is the sum of all before it
-pub record IsSumBefore (before : List Addition) (entry : Addition) (who : Who) (call : Add) (reply : ℕ) : Type 0 where
+pub record IsSumBefore (before : List Addition) (entry : Addition) (who : Who) (call : Add)
+    (reply : ℕ) : Type 0 where
   pub actor : entry.who ≡ who
   pub number : entry.number ≡ call.0
   pub sum : reply ≡ sum_from 0 before
-  pub kept : entry.before ≡ reply
+  pub kept : entry.sum_before ≡ reply
 
 -- a front part of a tally is one
-pub IsTallied-front : (s : ℕ) (front rest : List Addition) → IsTallied s (front ++ rest) → IsTallied s front
+pub IsTallied-front : (s : ℕ) (front rest : List Addition) → IsTallied s (front ++ rest)
+    → IsTallied s front
 IsTallied-front s [] rest h = tt
 IsTallied-front s (e ∷ es) rest h = (h.0, IsTallied-front ((s + e.number) % 2 ^ 64) es rest h.1)

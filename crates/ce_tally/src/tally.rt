@@ -20,7 +20,7 @@ pub struct Addition {
     /// The number.
     pub number: u64,
     /// The sum before, modulo 2^64.
-    pub before: u64,
+    pub sum_before: u64,
 }
 
 /// A sum modulo 2^64, and all that was added to it. Contracts see it as the list of what was added.
@@ -94,18 +94,18 @@ impl Kept for Tally {
     ghost stands = { λ _ before entry who call reply. IsSumBefore before entry who call reply };
 
     fn act(&mut self, _alloc: Global, who: Who, call: Add) -> Result<u64, (Add, NoMemory)> {
-        let before = self.sum;
+        let sum_before = self.sum;
         let number = call.0;
         let entry = Addition {
             who,
             number,
-            before,
+            sum_before,
         };
         let Ok(()) = self.additions.push(entry) else {
             return Err((call, NoMemory));
         };
-        self.sum = before.wrapping_add(number);
-        Ok(before)
+        self.sum = sum_before.wrapping_add(number);
+        Ok(sum_before)
     }
 
     ghost empty_is_lawful = { λ _. tt };

@@ -1,6 +1,6 @@
 //! The book, called from one thread and from many.
 ghost use Rattle.std.specs.Prelude.{◌≡◌, ◌+◌, ◌<◌, ◌≤◌, All, IfSome};
-ghost use Rattle.ce_lock.specs.Sitting.{IsOf, seen_history};
+ghost use Rattle.ce_lock.specs.Sitting.{IsSeatOf, seen_history};
 ghost use Rattle.ce_tally.specs.Sums.{IsTallied};
 
 use crate::row::{calls_and_meets, close_both, two_heads};
@@ -16,10 +16,10 @@ use std::thread::{Threads, join};
 // The calls of two heads and a worker, each answered by the sum before.
 #[test]
 fn book(rt: HostRuntime) -> Result<(), Fail> {
-    let met = calls_and_meets(&rt, rt.alloc()).ok_or("no memory")?;
-    let replies = met.replies;
+    let meeting = calls_and_meets(&rt, rt.alloc()).ok_or("no memory")?;
+    let replies = meeting.replies;
     assert_eq!(rt; replies, [0, 5, 12]);
-    let tally = close_both(rt.alloc(), met).ok_or("no memory")?;
+    let tally = close_both(rt.alloc(), meeting).ok_or("no memory")?;
     assert_eq!(rt; tally.sum(), 13);
     let additions = tally.additions();
     assert_eq!(rt; additions.len(), 3);
@@ -50,7 +50,7 @@ fn book(rt: HostRuntime) -> Result<(), Fail> {
 
 // What a seat has seen is a tally.
 fn seen_is_a_tally(book: &Book<Tally>, seat: &Seat<Tally>)
-    requires { IsOf book.now seat.now }
+    requires { IsSeatOf book.now seat.now }
     ensures { IsTallied 0 (seen_history seat.now) }
 {
     book.knows(seat);
@@ -58,9 +58,9 @@ fn seen_is_a_tally(book: &Book<Tally>, seat: &Seat<Tally>)
 
 #[test]
 fn heads_have_seen_tallies(rt: HostRuntime) -> Result<(), Fail> {
-    let met = calls_and_meets(&rt, rt.alloc()).ok_or("no memory")?;
-    seen_is_a_tally(&met.book, &met.first);
-    seen_is_a_tally(&met.book, &met.second);
+    let meeting = calls_and_meets(&rt, rt.alloc()).ok_or("no memory")?;
+    seen_is_a_tally(&meeting.book, &meeting.first_head);
+    seen_is_a_tally(&meeting.book, &meeting.second_head);
     Ok(())
 }
 
@@ -73,7 +73,7 @@ fn calls<R: Wait>(
     number: u64,
     count: u32,
 ) -> Option<u64>
-    requires { IsOf book.now seat }
+    requires { IsSeatOf book.now seat }
 {
     let mut last = None;
     for _ in 0..count {
@@ -84,11 +84,11 @@ fn calls<R: Wait>(
 
 // Two heads call at once: the answers of the two.
 fn both_at_once<R: Threads + Wait + Sync>(rt: &R, alloc: Global) -> Option<(u64, u64)> {
-    let (book, first, second) = two_heads(alloc)?;
+    let (book, first_head, second_head) = two_heads(alloc)?;
     let (five, seven) = join(
         rt,
-        || calls(rt, alloc, &book, first, 5, 1),
-        || calls(rt, alloc, &book, second, 7, 1),
+        || calls(rt, alloc, &book, first_head, 5, 1),
+        || calls(rt, alloc, &book, second_head, 7, 1),
     );
     Some((five?, seven?))
 }
@@ -110,8 +110,8 @@ fn eight_threads<R: Threads + Wait + Sync>(rt: &R, alloc: Global) -> Option<u64>
         return None;
     };
     let ninth = heads.pop()?;
-    let done = thread::map_vec(rt, heads, &|seat| calls(rt, alloc, &book, seat, 1, 1000)).ok()?;
-    for part in done {
+    let answers = thread::map_vec(rt, heads, &|seat| calls(rt, alloc, &book, seat, 1, 1000)).ok()?;
+    for part in answers {
         part?;
     }
     calls(rt, alloc, &book, ninth, 0, 1)

@@ -5,17 +5,17 @@ use Rattle.std.specs.List.{position_or_len}
 use Rattle.std.proofs.lemmas.Bool.{ltb-false}
 use Rattle.std.proofs.lemmas.List.{take_all, take_more, length-drop}
 use Rattle.ce_text.specs.Bytes.{is_blank}
-use Rattle.ce_text.specs.Line.{cut_parts, onto_trimmed, without_front_blanks, without_end_blanks}
+use Rattle.ce_text.specs.Line.{cut_parts, with_front_byte, without_front_blanks, without_end_blanks}
 
 -- the cut at a place, if it is within the list
 abbrev made : ℕ → List ℕ → Bool → List ℕ × Option (List ℕ)
 made place bytes within = (take place bytes, cond within (Some (drop (place + 1) bytes)) None)
 
-abbrev pub uncut : List ℕ → List ℕ × Option (List ℕ)
-uncut bytes = (bytes, None)
+abbrev pub uncut_parts : List ℕ → List ℕ × Option (List ℕ)
+uncut_parts bytes = (bytes, None)
 
-abbrev pub cut_there : List ℕ → ℕ → List ℕ × Option (List ℕ)
-cut_there bytes place = (take place bytes, Some (take (length bytes - (place + 1)) (drop (place + 1) bytes)))
+abbrev pub parts_at_place : List ℕ → ℕ → List ℕ × Option (List ℕ)
+parts_at_place bytes place = (take place bytes, Some (take (length bytes - (place + 1)) (drop (place + 1) bytes)))
 
 abbrev front_and_rest : List ℕ → List ℕ → List ℕ × Option (List ℕ)
 front_and_rest front rest = (front, Some rest)
@@ -24,17 +24,17 @@ whole : (n : ℕ) (bytes : List ℕ) → drop n bytes ≡ take (length bytes - n
 whole n bytes = sym (take_all (length bytes - n) (drop n bytes) (omega (arith, length-drop n bytes)))
 
 cut_by : (place : ℕ) (bytes : List ℕ) (within : Bool) → ltb place (length bytes) ≡ within → (found : Option ℕ) → found ≡ cond within (Some place) None
-    → MatchOption found (made place bytes within ≡ uncut bytes) (λ k. made place bytes within ≡ cut_there bytes k)
+    → MatchOption found (made place bytes within ≡ uncut_parts bytes) (λ k. made place bytes within ≡ parts_at_place bytes k)
 cut_by place bytes true lt None e = absurd cc
 cut_by place bytes true lt (Some k) e =
     let same : place ≡ k = cc in
-    ap (front_and_rest (take place bytes)) (whole (place + 1) bytes) ∙ ap (cut_there bytes) same
-cut_by place bytes false lt None e = ap uncut (take_all place bytes (ltb-false place (length bytes) lt))
+    ap (front_and_rest (take place bytes)) (whole (place + 1) bytes) ∙ ap (parts_at_place bytes) same
+cut_by place bytes false lt None e = ap uncut_parts (take_all place bytes (ltb-false place (length bytes) lt))
 cut_by place bytes false lt (Some k) e = absurd cc
 
 -- the cut, from the place that `position` found
 pub cut_at_place : (test : ℕ → Bool) (bytes : List ℕ) (found : Option ℕ) → found ≡ position test bytes
-    → MatchOption found (cut_parts test bytes ≡ uncut bytes) (λ place. cut_parts test bytes ≡ cut_there bytes place)
+    → MatchOption found (cut_parts test bytes ≡ uncut_parts bytes) (λ place. cut_parts test bytes ≡ parts_at_place bytes place)
 unfolding cut_parts
 cut_at_place test bytes found e = cut_by (position_or_len test bytes) bytes (ltb (position_or_len test bytes) (length bytes)) refl found e
 
@@ -62,16 +62,16 @@ front_empty (byte ∷ bytes) e = absurd (omega arith)
 end_blank : (bytes : List ℕ) (last : ℕ) → is_blank last ≡ true → without_end_blanks (bytes ++ last ∷ []) ≡ without_end_blanks bytes
 unfolding without_end_blanks
 end_blank [] last e = rw e refl
-end_blank (byte ∷ bytes) last e = ap (onto_trimmed byte) (end_blank bytes last e)
+end_blank (byte ∷ bytes) last e = ap (with_front_byte byte) (end_blank bytes last e)
 
-onto_more : (byte : ℕ) (bytes : List ℕ) (last : ℕ) → onto_trimmed byte (bytes ++ last ∷ []) ≡ byte ∷ (bytes ++ last ∷ [])
+onto_more : (byte : ℕ) (bytes : List ℕ) (last : ℕ) → with_front_byte byte (bytes ++ last ∷ []) ≡ byte ∷ (bytes ++ last ∷ [])
 onto_more byte [] last = refl
 onto_more byte (next ∷ bytes) last = refl
 
 end_other : (bytes : List ℕ) (last : ℕ) → is_blank last ≡ false → without_end_blanks (bytes ++ last ∷ []) ≡ bytes ++ last ∷ []
 unfolding without_end_blanks
 end_other [] last e = rw e refl
-end_other (byte ∷ bytes) last e = ap (onto_trimmed byte) (end_other bytes last e) ∙ onto_more byte bytes last
+end_other (byte ∷ bytes) last e = ap (with_front_byte byte) (end_other bytes last e) ∙ onto_more byte bytes last
 
 -- a list that is not empty is its front and its last element
 front_and_last : (bytes : List ℕ) → 0 < length bytes → bytes ≡ take (length bytes - 1) bytes ++ get_or bytes (length bytes - 1) 0 ∷ []

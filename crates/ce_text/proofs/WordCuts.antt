@@ -4,25 +4,25 @@ use Rattle.std.specs.Prelude.{filter}
 use Rattle.std.proofs.lemmas.Bool.{ne_eqb}
 use Rattle.ce_text.specs.Bytes.{is_blank}
 use Rattle.ce_text.specs.Line.{cut_parts, without_front_blanks}
-use Rattle.ce_text.specs.Words.{words_between}
+use Rattle.ce_text.specs.Words.{line_words}
 use Rattle.ce_text.proofs.CutParts.{cut_later}
 use Rattle.ce_text.proofs.Splitting.{split_cut, split_behind, cut_pieces}
 
 -- the words of what stands behind the first one
 abbrev pub words_behind : Option (List ℕ) → List (List ℕ)
-words_behind None = words_between []
-words_behind (Some rest) = words_between rest
+words_behind None = line_words []
+words_behind (Some rest) = line_words rest
 
-blank_goes : (byte : ℕ) (bytes : List ℕ) → is_blank byte ≡ true → words_between (byte ∷ bytes) ≡ words_between bytes
-unfolding words_between
+blank_goes : (byte : ℕ) (bytes : List ℕ) → is_blank byte ≡ true → line_words (byte ∷ bytes) ≡ line_words bytes
+unfolding line_words
 blank_goes byte bytes e = rw e refl
 
-words_by : (byte : ℕ) (bytes : List ℕ) (blank : Bool) → is_blank byte ≡ blank → words_between bytes ≡ words_between (without_front_blanks bytes) → words_between (byte ∷ bytes) ≡ words_between (without_front_blanks (byte ∷ bytes))
+words_by : (byte : ℕ) (bytes : List ℕ) (blank : Bool) → is_blank byte ≡ blank → line_words bytes ≡ line_words (without_front_blanks bytes) → line_words (byte ∷ bytes) ≡ line_words (without_front_blanks (byte ∷ bytes))
 unfolding without_front_blanks
 words_by byte bytes true e others = rw e (blank_goes byte bytes e ∙ others)
 words_by byte bytes false e others = rw e refl
 
-words_trimmed : (bytes : List ℕ) → words_between bytes ≡ words_between (without_front_blanks bytes)
+words_trimmed : (bytes : List ℕ) → line_words bytes ≡ line_words (without_front_blanks bytes)
 unfolding without_front_blanks
 words_trimmed [] = refl
 words_trimmed (byte ∷ bytes) = words_by byte bytes (is_blank byte) refl (words_trimmed bytes)
@@ -47,12 +47,12 @@ kept byte front pieces =
     rw some refl
 
 words_split : (bytes : List ℕ) (behind : Option (List ℕ)) → filter (λ piece. not (eqb (length piece) 0)) (split_behind is_blank behind) ≡ words_behind behind
-unfolding words_between
+unfolding line_words
 words_split bytes None = refl
 words_split bytes (Some rest) = refl
 
-words_cut : (byte : ℕ) (bytes front : List ℕ) (behind : Option (List ℕ)) → is_blank byte ≡ false → (front, behind) ≡ cut_parts is_blank (byte ∷ bytes) → words_between (byte ∷ bytes) ≡ front ∷ words_behind behind
-unfolding words_between
+words_cut : (byte : ℕ) (bytes front : List ℕ) (behind : Option (List ℕ)) → is_blank byte ≡ false → (front, behind) ≡ cut_parts is_blank (byte ∷ bytes) → line_words (byte ∷ bytes) ≡ front ∷ words_behind behind
+unfolding line_words
 words_cut byte bytes front behind e h =
     let rest = (cut_parts is_blank bytes).0 in
     let front_is : front ≡ byte ∷ rest = ap (λ (parts : List ℕ × Option (List ℕ)). parts.0) (h ∙ cut_later is_blank byte bytes e) in
@@ -62,18 +62,18 @@ words_cut byte bytes front behind e h =
     ∙ ap (λ (pieces : List (List ℕ)). (byte ∷ rest) ∷ pieces) (words_split bytes behind)
     ∙ ap (λ (first : List ℕ). first ∷ words_behind behind) (sym front_is)
 
-rest_by : (line rest front : List ℕ) (behind : Option (List ℕ)) → without_front_blanks line ≡ rest → 0 < length rest → (front, behind) ≡ cut_parts is_blank rest → words_between rest ≡ front ∷ words_behind behind
+rest_by : (line rest front : List ℕ) (behind : Option (List ℕ)) → without_front_blanks line ≡ rest → 0 < length rest → (front, behind) ≡ cut_parts is_blank rest → line_words rest ≡ front ∷ words_behind behind
 rest_by line [] front behind e some h = absurd (omega arith)
 rest_by line (byte ∷ bytes) front behind e some h = words_cut byte bytes front behind (first_stays line byte bytes e) h
 
-pub words_first : (line rest front : List ℕ) (behind : Option (List ℕ)) → rest ≡ without_front_blanks line → 0 < length rest → (front, behind) ≡ cut_parts is_blank rest → words_between line ≡ front ∷ words_behind behind
+pub words_first : (line rest front : List ℕ) (behind : Option (List ℕ)) → rest ≡ without_front_blanks line → 0 < length rest → (front, behind) ≡ cut_parts is_blank rest → line_words line ≡ front ∷ words_behind behind
 words_first line rest front behind e some h =
-    words_trimmed line ∙ ap words_between (sym e) ∙ rest_by line rest front behind (sym e) some h
+    words_trimmed line ∙ ap line_words (sym e) ∙ rest_by line rest front behind (sym e) some h
 
-none_by : (rest : List ℕ) → length rest ≡ 0 → words_between rest ≡ []
-unfolding words_between
+none_by : (rest : List ℕ) → length rest ≡ 0 → line_words rest ≡ []
+unfolding line_words
 none_by [] e = refl
 none_by (byte ∷ bytes) e = absurd (omega arith)
 
-pub words_none : (line rest : List ℕ) → rest ≡ without_front_blanks line → length rest ≡ 0 → words_between line ≡ []
-words_none line rest e none = words_trimmed line ∙ ap words_between (sym e) ∙ none_by rest none
+pub words_none : (line rest : List ℕ) → rest ≡ without_front_blanks line → length rest ≡ 0 → line_words line ≡ []
+words_none line rest e none = words_trimmed line ∙ ap line_words (sym e) ∙ none_by rest none

@@ -11,4 +11,5 @@ are_digits base (byte ∷ bytes) = list_all (λ digit. nat_lt (digit_value digit
 
 -- the number that digits of a base write, where it is not above a limit
 unfoldable pub number_of_digits : ℕ → ℕ → List ℕ → Option ℕ
-number_of_digits base most digits = if are_digits base digits && nat_le (digits_value base digits) most then Some (digits_value base digits) else None
+number_of_digits base greatest digits = if are_digits base digits
+    && nat_le (digits_value base digits) greatest then Some (digits_value base digits) else None

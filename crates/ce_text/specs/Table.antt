@@ -2,6 +2,6 @@
 use Rattle.std.specs.Prelude.{ℕ, List, [], ◌∷◌, Option, Some, None, if◌then◌else◌, bytes_eq}
 
 -- the value of a table's first row for a text
-abbrev pub look_up : {X : Type 0} → List (List ℕ × X) → List ℕ → Option X
-look_up [] text = None
-look_up (row ∷ rows) text = if bytes_eq row.0 text then Some row.1 else look_up rows text
+abbrev pub table_value : {X : Type 0} → List (List ℕ × X) → List ℕ → Option X
+table_value [] text = None
+table_value (row ∷ rows) text = if bytes_eq row.0 text then Some row.1 else table_value rows text

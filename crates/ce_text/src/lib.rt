@@ -1,5 +1,5 @@
-//! Lines of a text and what stands in them: comments, blanks, words, names and numbers; and tables of words and of
-//! names. The languages that are written so are read above this crate.
+//! Lines of a text and what stands in them: comments, blanks, words, names and numbers; and tables
+//! of words and of names. The languages that are written so are read above this crate.
 #![tactic(auto)]
 
 mod bytes;

@@ -13,13 +13,13 @@ fn are_name_bytes(bytes: &[u8]) -> bool
     bytes.iter().all(|byte| is_name_byte(*byte))
 }
 
-/// Whether the bytes are a name: 1 to `longest` letters, digits and `_`, no digit first.
+/// Whether the bytes are a name: 1 to `greatest_length` letters, digits and `_`, no digit first.
 #[tactic(auto, unfolding(crate::specs::Name::is_name))]
-pub fn is_name(bytes: &[u8], longest: usize) -> bool
-    ensures { result ≡ is_name longest bytes.now }
+pub fn is_name(bytes: &[u8], greatest_length: usize) -> bool
+    ensures { result ≡ is_name greatest_length bytes.now }
 {
     match bytes {
         [] => false,
-        [first, ..] => !is_digit(*first) && are_name_bytes(bytes) && bytes.len() <= longest,
+        [first, ..] => !is_digit(*first) && are_name_bytes(bytes) && bytes.len() <= greatest_length,
     }
 }

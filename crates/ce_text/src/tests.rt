@@ -21,7 +21,7 @@ fn parts_of_a_line(rt: HostRuntime) {
 
 #[test]
 fn names(rt: HostRuntime) {
-    for (text, longest, want) in [
+    for (text, greatest_length, want) in [
         (b"a_1".as_slice(), 3, true),
         (b"a_1".as_slice(), 2, false),
         (b"_".as_slice(), 16, true),
@@ -29,7 +29,7 @@ fn names(rt: HostRuntime) {
         (b"".as_slice(), 16, false),
         (b"a-b".as_slice(), 16, false),
     ] {
-        assert_eq!(rt; is_name(text, longest), want, "{text:?}");
+        assert_eq!(rt; is_name(text, greatest_length), want, "{text:?}");
     }
 }
 

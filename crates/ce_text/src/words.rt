@@ -1,14 +1,14 @@
 //! Words between blanks.
 
 ghost use Rattle.std.specs.Prelude.{◌≡◌, ◌∷◌, [], ◌<◌, length, MatchOption, IfSome};
-ghost use Rattle.ce_text.specs.Words.{words_between};
+ghost use Rattle.ce_text.specs.Words.{line_words};
 
 use crate::line::{cut_at_blank, without_front_blanks};
 
 /// The first word of a line, and what follows it; none where the line has no word.
 pub fn next_word(line: &[u8]) -> Option<(&[u8], &[u8])>
-    ensures words { MatchOption result (words_between line.now ≡ [])
-        (λ found. words_between line.now ≡ found.0.now ∷ words_between found.1.now) }
+    ensures words { MatchOption result (line_words line.now ≡ [])
+        (λ found. line_words line.now ≡ found.0.now ∷ line_words found.1.now) }
     ensures shorter { IfSome result (λ found. length found.1.now < length line.now) }
 {
     let rest = without_front_blanks(line);
@@ -17,6 +17,6 @@ pub fn next_word(line: &[u8]) -> Option<(&[u8], &[u8])>
     }
     match cut_at_blank(rest) {
         (word, None) => Some((word, &[])),
-        (word, Some(behind)) => Some((word, behind)),
+        (word, Some(others)) => Some((word, others)),
     }
 }

@@ -10,7 +10,7 @@ use Rattle.ce_script.specs.declared.record.Record.{Record}
 use Rattle.ce_script.specs.declared.script.Script.{Script}
 use Rattle.ce_script.specs.EntryText.{entry_line}
 use Rattle.ce_script.specs.Texts.{cube_line}
-use Rattle.ce_trace.specs.Links.{last_of}
+use Rattle.ce_trace.specs.Links.{last_entries}
 use Rattle.ce_trace.specs.Sections.{section_text, section_and_later, sections_text}
 use Rattle.ce_daemon.specs.Peeks.{cube_grant, numbered_grant}
 use Rattle.ce_trace.proofs.Lasts.{IsNext, last_of-behind}
@@ -44,18 +44,18 @@ ahead-none script run_record number history at entry below is none =
 pub ahead-some : (script : Script) (run_record : Record) (number : ℕ) (history : List Entry) (at : ℕ) (entry : Entry) (grant : Grant) (next : ℕ) (old head new whole : List ℕ)
     → at < length history → entry ≡ get_or history at entry → Some grant ≡ option_map (λ cube. numbered_grant (number, cube)) (entry_grant entry)
     → IsNext (cube_grant grant) history (length history - at - 1) next → old ++ sections_text script run_record number (drop at history) ≡ whole
-    → head ≡ old ++ cube_line run_record grant.number (cube_grant grant) → new ≡ head ++ flat_map (entry_line script) (trace_behind (cube_grant grant) (last_of next history))
+    → head ≡ old ++ cube_line run_record grant.number (cube_grant grant) → new ≡ head ++ flat_map (entry_line script) (trace_behind (cube_grant grant) (last_entries next history))
     → new ++ sections_text script run_record (number + 1) (drop (at + 1) history) ≡ whole
 ahead-some script run_record number history at entry grant next old head new whole below is some own so_far headed traced =
     let later = sections_text script run_record (number + 1) (drop (at + 1) history) in
     let trace = ap (λ behind. flat_map (entry_line script) behind) (own.trace) in
-    let same : section_text script run_record grant (drop (at + 1) history) ≡ section_text script run_record grant (last_of next history) =
+    let same : section_text script run_record grant (drop (at + 1) history) ≡ section_text script run_record grant (last_entries next history) =
     ap (λ behind. section_text script run_record grant behind) (sym (last_of-behind history at below))
     ∙ ap (λ lines. cube_line run_record grant.number (cube_grant grant) ++ lines) trace in
-    let more : new ≡ old ++ section_text script run_record grant (last_of next history) =
-    traced ∙ ap (λ text. text ++ flat_map (entry_line script) (trace_behind (cube_grant grant) (last_of next history))) headed
-    ∙ append_assoc old (cube_line run_record grant.number (cube_grant grant)) (flat_map (entry_line script) (trace_behind (cube_grant grant) (last_of next history))) in
-    ap (λ text. text ++ later) more ∙ append_assoc old (section_text script run_record grant (last_of next history)) later
+    let more : new ≡ old ++ section_text script run_record grant (last_entries next history) =
+    traced ∙ ap (λ text. text ++ flat_map (entry_line script) (trace_behind (cube_grant grant) (last_entries next history))) headed
+    ∙ append_assoc old (cube_line run_record grant.number (cube_grant grant)) (flat_map (entry_line script) (trace_behind (cube_grant grant) (last_entries next history))) in
+    ap (λ text. text ++ later) more ∙ append_assoc old (section_text script run_record grant (last_entries next history)) later
     ∙ ap (λ section. old ++ (section ++ later)) (sym same)
     ∙ ap (λ text. old ++ text) (sym (ahead script run_record number history at entry below is ∙ then_some script run_record number (entry_grant entry) (drop (at + 1) history) (λ n. sections_text script run_record n (drop (at + 1) history)) grant some))
     ∙ so_far

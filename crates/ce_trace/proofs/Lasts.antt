@@ -5,32 +5,32 @@ use Rattle.std.proofs.lemmas.List.{drop_more, drop-drop, length_push, get_or_pus
 use Rattle.ce_model.specs.declared.entry.Entry.{Entry}
 use Rattle.ce_model.specs.Renaming.{CubeGrant}
 use Rattle.ce_model.specs.Views.{trace_behind}
-use Rattle.ce_trace.specs.Links.{last_of, entries_from_own, links_of, IsOwn}
+use Rattle.ce_trace.specs.Links.{last_entries, entries_from_own, links_of, IsOwnLink}
 use Rattle.ce_trace.proofs.Traces.{trace-other}
 
 -- the last entries behind a first one
-pub last_of-cons : (count : ℕ) (entry : Entry) (behind : List Entry) → count ≤ length behind → last_of count (entry ∷ behind) ≡ last_of count behind
+pub last_of-cons : (count : ℕ) (entry : Entry) (behind : List Entry) → count ≤ length behind → last_entries count (entry ∷ behind) ≡ last_entries count behind
 last_of-cons count entry behind within =
     let one_more : length (entry ∷ behind) - count ≡ suc (length behind - count) = omega arith in
     rw one_more refl
 
-pub length-last_of : (count : ℕ) (history : List Entry) → count ≤ length history → length (last_of count history) ≡ count
+pub length-last_of : (count : ℕ) (history : List Entry) → count ≤ length history → length (last_entries count history) ≡ count
 length-last_of count history within = length-drop (length history - count) history ∙ omega arith
 
-pub last_of-all : (history : List Entry) → last_of (length history) history ≡ history
+pub last_of-all : (history : List Entry) → last_entries (length history) history ≡ history
 last_of-all history =
     let none : length history - length history ≡ 0 = omega arith in
     rw none refl
 
-pub last_of-last_of : (count more : ℕ) (history : List Entry) → count ≤ more → more ≤ length history → last_of count (last_of more history) ≡ last_of count history
+pub last_of-last_of : (count more : ℕ) (history : List Entry) → count ≤ more → more ≤ length history → last_entries count (last_entries more history) ≡ last_entries count history
 last_of-last_of count more history fewer within =
-    let long : length (last_of more history) ≡ more = length-last_of more history within in
+    let long : length (last_entries more history) ≡ more = length-last_of more history within in
     let same : length history - more + (more - count) ≡ length history - count = omega arith in
-    ap (λ n. drop (n - count) (last_of more history)) long ∙ drop-drop (more - count) (length history - more) history ∙ ap (λ n. drop n history) same
+    ap (λ n. drop (n - count) (last_entries more history)) long ∙ drop-drop (more - count) (length history - more) history ∙ ap (λ n. drop n history) same
 
 -- the last entries are the first of them and the last ones without it
 pub last_of-more : (count : ℕ) (history : List Entry) (entry : Entry) → 0 < count → count ≤ length history → entry ≡ get_or history (length history - count) entry
-    → last_of count history ≡ entry ∷ last_of (count - 1) history
+    → last_entries count history ≡ entry ∷ last_entries (count - 1) history
 last_of-more count history entry some within is =
     let same : length history - count + 1 ≡ length history - (count - 1) = omega arith in
     drop_more history (length history - count) entry (omega arith) ∙ ap (λ e. e ∷ drop (length history - count + 1) history) (sym is)
@@ -52,7 +52,7 @@ own_from-within user (entry ∷ behind) =
       | inr other ↦ rw (own_from-other user entry behind other) (omega (arith, own_from-within user behind))
     ]
 
-pub own_from-last : (user : ℕ) (history : List Entry) → entries_from_own user history ≡ last_of (length (entries_from_own user history)) history
+pub own_from-last : (user : ℕ) (history : List Entry) → entries_from_own user history ≡ last_entries (length (entries_from_own user history)) history
 own_from-last user [] = refl
 own_from-last user (entry ∷ behind) =
     elim (cases_Bool (entry.user == user)) [
@@ -97,8 +97,8 @@ length-links_of [] = refl
 length-links_of (entry ∷ behind) = length_push (links_of behind) (length (entries_from_own entry.user behind)) ∙ (let same = length-links_of behind in omega arith)
 
 -- the link of the entry that so many entries begin with
-pub link_at : (history : List Entry) (count d : ℕ) (entry : Entry) → 0 < count → count ≤ length history → last_of count history ≡ entry ∷ last_of (count - 1) history
-    → get_or (links_of history) (count - 1) d ≡ length (entries_from_own entry.user (last_of (count - 1) history))
+pub link_at : (history : List Entry) (count d : ℕ) (entry : Entry) → 0 < count → count ≤ length history → last_entries count history ≡ entry ∷ last_entries (count - 1) history
+    → get_or (links_of history) (count - 1) d ≡ length (entries_from_own entry.user (last_entries (count - 1) history))
 link_at [] count d entry some within begins = absurd (omega arith)
 link_at (first ∷ behind) count d entry some within begins =
     let long : length (links_of behind) ≡ length behind = length-links_of behind in
@@ -111,28 +111,29 @@ link_at (first ∷ behind) count d entry some within begins =
       | inr whole ↦
           let all : count - 1 ≡ length behind = omega arith in
           let count_is : count ≡ length (first ∷ behind) = omega arith in
-          let rest : last_of (count - 1) (first ∷ behind) ≡ behind =
-          last_of-cons (count - 1) first behind (omega arith) ∙ ap (λ n. last_of n behind) all ∙ last_of-all behind in
-          let same : first ∷ behind ≡ entry ∷ last_of (count - 1) (first ∷ behind) =
-          sym (ap (λ n. last_of n (first ∷ behind)) count_is ∙ last_of-all (first ∷ behind)) ∙ begins in
+          let rest : last_entries (count - 1) (first ∷ behind) ≡ behind =
+          last_of-cons (count - 1) first behind (omega arith) ∙ ap (λ n. last_entries n behind) all ∙ last_of-all behind in
+          let same : first ∷ behind ≡ entry ∷ last_entries (count - 1) (first ∷ behind) =
+          sym (ap (λ n. last_entries n (first ∷ behind)) count_is ∙ last_of-all (first ∷ behind)) ∙ begins in
           let first_is : first ≡ entry = cc in
           get_or_push (links_of behind) (length (entries_from_own first.user behind)) d (count - 1) (omega arith)
           ∙ ap (λ e. length (entries_from_own e.user behind)) first_is ∙ ap (λ more. length (entries_from_own entry.user more)) (sym rest)
     ]
 
--- what the entries from the next one of the user on are to those that begin behind an entry of the user
+-- what the entries from the next one of the user on are to those that begin behind an entry of the
+-- user
 pub record IsNext (cube : CubeGrant) (history : List Entry) (count next : ℕ) : Type 0 where
-  pub own : IsOwn history cube.user next
+  pub own : IsOwnLink history cube.user next
   pub fewer : next ≤ count
-  pub trace : trace_behind cube (last_of count history) ≡ trace_behind cube (last_of next history)
+  pub trace : trace_behind cube (last_entries count history) ≡ trace_behind cube (last_entries next history)
 
-pub next_from : (cube : CubeGrant) (history : List Entry) (count next : ℕ) → count ≤ length history → next ≡ length (entries_from_own cube.user (last_of count history)) → IsNext cube history count next
+pub next_from : (cube : CubeGrant) (history : List Entry) (count next : ℕ) → count ≤ length history → next ≡ length (entries_from_own cube.user (last_entries count history)) → IsNext cube history count next
 next_from cube history count next within is =
-    let rest = last_of count history in
+    let rest = last_entries count history in
     let long : length rest ≡ count = length-last_of count history within in
     let fewer : next ≤ count = omega (arith, own_from-within cube.user rest) in
-    let same : entries_from_own cube.user rest ≡ last_of next history =
-    own_from-last cube.user rest ∙ ap (λ n. last_of n rest) (sym is) ∙ last_of-last_of next count history fewer within in
+    let same : entries_from_own cube.user rest ≡ last_entries next history =
+    own_from-last cube.user rest ∙ ap (λ n. last_entries n rest) (sym is) ∙ last_of-last_of next count history fewer within in
     record {
       own = record { within = omega arith; begun = ap (entries_from_own cube.user) (sym same) ∙ own_from-twice cube.user rest ∙ same };
       fewer = fewer;
@@ -141,21 +142,21 @@ next_from cube history count next within is =
 
 -- one turn of a walk from an entry of the user to its next one
 pub record IsTurnAt (cube : CubeGrant) (history : List Entry) (left : ℕ) (entry : Entry) (next : ℕ) : Type 0 where
-  pub begins : last_of left history ≡ entry ∷ last_of (left - 1) history
+  pub begins : last_entries left history ≡ entry ∷ last_entries (left - 1) history
   pub user : entry.user ≡ cube.user
   pub on : IsNext cube history (left - 1) next
 
 next_linked : (cube : CubeGrant) (history : List Entry) (links : List ℕ) (left : ℕ) (entry : Entry) → links ≡ links_of history → 0 < left → left ≤ length history
-    → last_of left history ≡ entry ∷ last_of (left - 1) history → entry.user ≡ cube.user → IsNext cube history (left - 1) (get_or links (left - 1) 0)
+    → last_entries left history ≡ entry ∷ last_entries (left - 1) history → entry.user ≡ cube.user → IsNext cube history (left - 1) (get_or links (left - 1) 0)
 next_linked cube history links left entry linked some within begins user =
     next_from cube history (left - 1) (get_or links (left - 1) 0) (omega arith)
-    (ap (λ all. get_or all (left - 1) 0) linked ∙ link_at history left 0 entry some within begins ∙ ap (λ u. length (entries_from_own u (last_of (left - 1) history))) user)
+    (ap (λ all. get_or all (left - 1) 0) linked ∙ link_at history left 0 entry some within begins ∙ ap (λ u. length (entries_from_own u (last_entries (left - 1) history))) user)
 
-pub turn_at : (cube : CubeGrant) (history : List Entry) (links : List ℕ) (left : ℕ) (entry : Entry) → links ≡ links_of history → IsOwn history cube.user left
+pub turn_at : (cube : CubeGrant) (history : List Entry) (links : List ℕ) (left : ℕ) (entry : Entry) → links ≡ links_of history → IsOwnLink history cube.user left
     → 0 < left → entry ≡ get_or history (length history - left) entry → IsTurnAt cube history left entry (get_or links (left - 1) 0)
 turn_at cube history links left entry linked own some is =
     let begins = last_of-more left history entry some own.within is in
-    let user = own_from-begun cube.user entry (last_of (left - 1) history) (ap (entries_from_own cube.user) (sym begins) ∙ own.begun ∙ begins) in
+    let user = own_from-begun cube.user entry (last_entries (left - 1) history) (ap (entries_from_own cube.user) (sym begins) ∙ own.begun ∙ begins) in
     record { begins = begins; user = user; on = next_linked cube history links left entry linked some own.within begins user }
 
 -- the same from the place of a grant
@@ -166,7 +167,7 @@ behind_linked cube history links at entry linked below is user =
     let begins = last_of-more (length history - at) history entry (omega arith) (omega arith) (is ∙ ap (λ i. get_or history i entry) place) in
     next_linked cube history links (length history - at) entry linked (omega arith) (omega arith) begins user
 
-pub last_of-behind : (history : List Entry) (at : ℕ) → at < length history → last_of (length history - at - 1) history ≡ drop (at + 1) history
+pub last_of-behind : (history : List Entry) (at : ℕ) → at < length history → last_entries (length history - at - 1) history ≡ drop (at + 1) history
 last_of-behind history at below =
     let same : length history - (length history - at - 1) ≡ at + 1 = omega arith in
     ap (λ n. drop n history) same

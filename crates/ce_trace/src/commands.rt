@@ -40,7 +40,7 @@ pub(crate) fn push_command(
         }
         Command::Run(count) => push_numbered(text, Verb::Run, *count),
         Command::Recv(count) => push_numbered(text, Verb::Recv, *count),
-        Command::Dump(at) => push_placed(text, Verb::Dump, *at),
+        Command::Dump(place) => push_placed(text, Verb::Dump, *place),
         Command::Trace => push_verb(text, Verb::Trace),
     }
 }

@@ -3,7 +3,7 @@ ghost use Rattle.std.specs.Prelude.{◌≡◌, [], ◌∷◌, ◌++◌, OnOk, No
 ghost use Rattle.ce_text.specs.Bytes.{space};
 ghost use Rattle.ce_model.specs.Renaming.{block_inward, entry_inward, place_inward, renamed_targets, renamed_what};
 ghost use Rattle.ce_script.specs.TextParts.{bytes_text, image_name, place_text, joined_words};
-ghost use Rattle.ce_script.specs.EntryText.{actor_words, entry_line, found_text, given_words, kill_found_text, number_text, target_text, targets_text, what_words};
+ghost use Rattle.ce_script.specs.EntryText.{actor_words, entry_line, found_text, given_words, kill_result_text, number_text, target_text, targets_text, what_words};
 ghost use Rattle.ce_trace.specs.Spaced.{spaced_words};
 
 use crate::digits::{push_data, push_number, push_some_number, push_with_number};
@@ -12,7 +12,7 @@ use crate::names::image_name;
 use crate::places::{push_block, push_place};
 use crate::words::{push, push_line_feed, push_word};
 use ce_model::{
-    BlockId, Bytes, Entry, HOST, KillFound, LookResult, Place, Subcube, TakeResult, What,
+    BlockId, Bytes, Entry, HOST, KillResult, LookResult, Place, Subcube, TakeResult, What,
 };
 use ce_script::Script;
 use std::alloc::AllocError;
@@ -150,14 +150,14 @@ fn push_spawn(
 }
 
 /// What a process asked to end.
-fn push_kill(text: &mut Vec<u8>, pid: u32, to: Place, found: KillFound) -> Result<(), AllocError>
+fn push_kill(text: &mut Vec<u8>, pid: u32, to: Place, found: KillResult) -> Result<(), AllocError>
     ensures { OnOk result (text.new.items
         ≡ text.old.items ++ spaced_words (codes "kill" ∷ decimal pid ∷ place_text to
-        ∷ kill_found_text found ∷ [])) }
+        ∷ kill_result_text found ∷ [])) }
 {
     push_with_number(text, b" kill", pid)?;
     push_place_word(text, to)?;
-    push_kill_found(text, found)
+    push_kill_result(text, found)
 }
 
 /// What a process left in the trace.
@@ -200,27 +200,28 @@ fn push_fresh(text: &mut Vec<u8>, fresh: bool) -> Result<(), AllocError>
 }
 
 /// What a kill found, with a space before the word.
-fn push_kill_found(text: &mut Vec<u8>, found: KillFound) -> Result<(), AllocError>
-    ensures { OnOk result (text.new.items ≡ text.old.items ++ (space ∷ kill_found_text found)) }
+fn push_kill_result(text: &mut Vec<u8>, found: KillResult) -> Result<(), AllocError>
+    ensures { OnOk result (text.new.items ≡ text.old.items ++ (space ∷ kill_result_text found)) }
 {
     match found {
-        KillFound::Killed => push(text, b" ok"),
-        KillFound::Unused => push(text, b" unused"),
-        KillFound::Already => push(text, b" already"),
+        KillResult::Killed => push(text, b" ok"),
+        KillResult::Unused => push(text, b" unused"),
+        KillResult::Already => push(text, b" already"),
     }
 }
 
-/// The places that a message goes to, each with the block that carries it there; with a space before them.
+/// The places that a message goes to, each with the block that carries it there; with a space
+/// before them.
 fn push_targets(text: &mut Vec<u8>, sub: Subcube, to: &[(Place, BlockId)]) -> Result<(), AllocError>
     ensures { OnOk result (text.new.items ≡ text.old.items ++ (space
         ∷ targets_text (renamed_targets (place_inward sub) (block_inward sub) to.now))) }
 {
     push(text, b" ")?;
-    let Some((first, further)) = to.split_first() else {
+    let Some((first, others)) = to.split_first() else {
         return Ok(());
     };
     push_target(text, sub, first)?;
-    for target in further {
+    for target in others {
         push(text, b",")?;
         push_target(text, sub, target)?;
     }

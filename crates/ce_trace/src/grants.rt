@@ -8,7 +8,7 @@ use ce_daemon::Grant;
 use ce_model::{Entry, What};
 
 /// The cube that an entry grants, under this number.
-pub(crate) fn grant_by(entry: &Entry, number: u64) -> Option<Grant>
+pub(crate) fn entry_grant_numbered(entry: &Entry, number: u64) -> Option<Grant>
     ensures cube { result
         ≡ option_map (λ cube. numbered_grant (number, cube)) (entry_grant entry.now) }
     ensures user { IfSome result (λ grant. grant.user ≡ entry.now.user) }

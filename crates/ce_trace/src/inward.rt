@@ -83,7 +83,7 @@ fn send_inward(
 
 /// A call and its answer, as the cube knows them.
 fn what_inward(alloc: Global, sub: Subcube, what: &What) -> Result<What, NoMemory>
-    ensures { IfOk result (λ renamed. renamed
+    ensures { IfOk result (λ answer. answer
         ≡ renamed_what (place_inward sub) (block_inward sub) what.now) }
 {
     match what {
@@ -139,7 +139,7 @@ fn what_inward(alloc: Global, sub: Subcube, what: &What) -> Result<What, NoMemor
 
 /// An entry, as the cube knows it.
 pub(crate) fn entry_inward(alloc: Global, sub: Subcube, entry: &Entry) -> Result<Entry, NoMemory>
-    ensures { IfOk result (λ renamed. renamed ≡ entry_inward sub entry.now) }
+    ensures { IfOk result (λ answer. answer ≡ entry_inward sub entry.now) }
 {
     Ok(Entry {
         user: entry.user,

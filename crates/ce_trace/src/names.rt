@@ -9,7 +9,7 @@ pub(crate) fn image_name(script: &Script, image: u32) -> &[u8]
     ensures { result.now ≡ image_name script.now image }
 {
     match script.images.get(image as usize) {
-        Some(named) => named.name.as_str().as_bytes(),
+        Some(named_image) => named_image.name.as_str().as_bytes(),
         None => b"",
     }
 }
@@ -19,7 +19,7 @@ pub(crate) fn user_name(run_record: &Record, user: u32) -> &[u8]
     ensures { result.now ≡ user_name run_record.now user }
 {
     match run_record.users.get(user as usize) {
-        Some(of) => of.name.as_str().as_bytes(),
+        Some(user_record) => user_record.name.as_str().as_bytes(),
         None => b"",
     }
 }

@@ -32,7 +32,7 @@ pub(crate) fn push_reply(
             push(text, b"granted")?;
             push_subcube(text, *sub)
         }
-        Answer::Peeked(found) => push_peeked(text, run_record, found),
+        Answer::Peeked(peek_result) => push_peeked(text, run_record, peek_result),
         Answer::Freed => push(text, b"freed"),
         Answer::Ok => push(text, b"ok"),
         Answer::NoPlace => push(text, b"no place"),
@@ -65,14 +65,14 @@ fn push_message(text: &mut Vec<u8>, from: Place, bytes: &Bytes) -> Result<(), Al
 fn push_peeked(
     text: &mut Vec<u8>,
     run_record: &Record,
-    found: &PeekResult,
+    peek_result: &PeekResult,
 ) -> Result<(), AllocError>
     ensures { OnOk result
-        (text.new.items ≡ text.old.items ++ peeked_text run_record.now found.now) }
+        (text.new.items ≡ text.old.items ++ peeked_text run_record.now peek_result.now) }
 {
     push(text, b"free")?;
-    push_number(text, u64::from(found.free))?;
-    push_grants(text, run_record, found.grants.as_slice())
+    push_number(text, u64::from(peek_result.free))?;
+    push_grants(text, run_record, peek_result.grants.as_slice())
 }
 
 /// The cubes that are held.

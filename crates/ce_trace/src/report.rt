@@ -1,7 +1,7 @@
 //! The report of a script's run.
 ghost use Rattle.std.specs.Prelude.{◌≡◌, [], ◌∷◌, ◌++◌, IfOk, OnOk, codes, decimal, flat_map};
 ghost use Rattle.ce_script.specs.TextParts.{line};
-ghost use Rattle.ce_script.specs.Texts.{done_text, report, user_text};
+ghost use Rattle.ce_script.specs.Texts.{doing_text, report, user_text};
 
 use crate::commands::push_command;
 use crate::digits::push_number;
@@ -14,8 +14,9 @@ use ce_model::NoMemory;
 use ce_script::{Record, Script, UserRecord};
 use std::alloc::{AllocError, Global};
 
-/// The report of a script's run: the machine, each user with the commands and replies, each cube that was granted with
-/// its trace, and `end`. A script without statements has none. `NoMemory` may come at any time.
+/// The report of a script's run: the machine, each user with the commands and replies, each cube
+/// that was granted with its trace, and `end`. A script without statements has none. `NoMemory` may
+/// come at any time.
 #[tactic(auto, using(crate::proofs::Numbers::report_sections), unfolding(ce_script::specs::Texts::report))]
 pub fn write_report(
     alloc: Global,
@@ -71,24 +72,24 @@ fn push_user(
     push(text, b"user")?;
     push_word(text, user.name.as_str().as_bytes())?;
     push_line_feed(text)?;
-    for done in user.done.as_slice() {
-        push_done(text, script, run_record, done)?;
+    for doing in user.done.as_slice() {
+        push_doing(text, script, run_record, doing)?;
     }
     Ok(())
 }
 
 /// A command and its reply, a line each.
-fn push_done(
+fn push_doing(
     text: &mut Vec<u8>,
     script: &Script,
     run_record: &Record,
-    done: &(Command, Answer),
+    doing: &(Command, Answer),
 ) -> Result<(), AllocError>
     ensures { OnOk result (text.new.items
-        ≡ text.old.items ++ done_text script.now run_record.now done.now) }
+        ≡ text.old.items ++ doing_text script.now run_record.now doing.now) }
 {
-    push_command(text, script, &done.0)?;
+    push_command(text, script, &doing.0)?;
     push(text, b"\n= ")?;
-    push_reply(text, run_record, &done.1)?;
+    push_reply(text, run_record, &doing.1)?;
     push_line_feed(text)
 }

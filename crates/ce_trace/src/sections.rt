@@ -3,13 +3,13 @@ ghost use Rattle.std.specs.Prelude.{◌≡◌, ◌++◌, OnOk, flat_map};
 ghost use Rattle.ce_model.specs.Views.{grants_of, trace_behind};
 ghost use Rattle.ce_script.specs.EntryText.{entry_line};
 ghost use Rattle.ce_script.specs.Texts.{cube_line};
-ghost use Rattle.ce_trace.specs.Links.{last_of, links_of, IsOwn};
+ghost use Rattle.ce_trace.specs.Links.{last_entries, links_of, IsOwnLink};
 ghost use Rattle.ce_trace.specs.Sections.{sections_text};
 ghost use Rattle.ce_daemon.specs.Peeks.{cube_grant};
 
 use crate::digits::push_number;
 use crate::entries::push_entry;
-use crate::grants::{grant_by, is_call, is_drain};
+use crate::grants::{entry_grant_numbered, is_call, is_drain};
 use crate::names::user_name;
 use crate::replies::push_extent;
 use crate::words::{push, push_line_feed, push_word};
@@ -31,9 +31,9 @@ pub(crate) fn push_sections(
         ≡ text.old.items ++ sections_text script.now run_record.now 0 history.now) }
 {
     let mut number = 0;
-    for (at, entry) in history.iter().enumerate() {
-        if let Some(grant) = grant_by(entry, number) {
-            let next = links[history.len() - at - 1];
+    for (place, entry) in history.iter().enumerate() {
+        if let Some(grant) = entry_grant_numbered(entry, number) {
+            let next = links[history.len() - place - 1];
             push_head(text, run_record, &grant)?;
             push_trace(text, script, history, links, &grant, next)?;
             number += 1;
@@ -55,7 +55,8 @@ fn push_head(text: &mut Vec<u8>, run_record: &Record, grant: &Grant) -> Result<(
     push_line_feed(text)
 }
 
-/// A line for each entry of the cube's trace. From the next entry of its user on the history has `next` entries.
+/// A line for each entry of the cube's trace. From the next entry of its user on the history has
+/// `next` entries.
 fn push_trace(
     text: &mut Vec<u8>,
     script: &Script,
@@ -65,20 +66,20 @@ fn push_trace(
     next: usize,
 ) -> Result<(), AllocError>
     requires linked { links.now ≡ links_of history.now }
-    requires own { IsOwn history.now grant.now.user next }
+    requires own { IsOwnLink history.now grant.now.user next }
     ensures { OnOk result (text.new.items ≡ text.old.items ++ flat_map (entry_line script.now)
-        (trace_behind (cube_grant grant.now) (last_of next history.now))) }
+        (trace_behind (cube_grant grant.now) (last_entries next history.now))) }
 {
-    let mut left = next;
-    while left > 0 {
-        let entry = &history[history.len() - left];
+    let mut count_left = next;
+    while count_left > 0 {
+        let entry = &history[history.len() - count_left];
         if is_drain(&entry.what) {
             break;
         }
         if is_call(&entry.what) {
             push_entry(text, script, grant.sub, entry)?;
         }
-        left = links[left - 1];
+        count_left = links[count_left - 1];
     }
     Ok(())
 }

@@ -12,8 +12,8 @@ use ce_model::NoMemory;
 use ce_script::{Record, UserRecord};
 use std::alloc::{AllocError, Global};
 
-/// The summary of the load of a seed: each user, and what its first `recv` was answered; a user without one has an
-/// empty answer. `NoMemory` may come at any time.
+/// The summary of the load of a seed: each user, and what its first `recv` was answered; a user
+/// without one has an empty answer. `NoMemory` may come at any time.
 #[tactic(auto, unfolding(ce_script::specs::Texts::summary))]
 pub fn write_summary(alloc: Global, seed: u32, run_record: &Record) -> Result<Vec<u8>, NoMemory>
     ensures { IfOk result (λ text. text.items ≡ summary seed run_record.now) }
@@ -49,16 +49,16 @@ fn push_answer(text: &mut Vec<u8>, run_record: &Record, user: &UserRecord) -> Re
         ≡ text.old.items ++ received_text run_record.now user.now) }
 {
     match first_recv(user.done.as_slice()) {
-        Some(done) => push_reply(text, run_record, &done.1),
+        Some(doing) => push_reply(text, run_record, &doing.1),
         None => Ok(()),
     }
 }
 
 /// The first `recv`, with its answer.
-fn first_recv(done: &[(Command, Answer)]) -> Option<&(Command, Answer)>
-    ensures { option_copied result ≡ find (λ each. is_recv each.0) done.now }
+fn first_recv(doings: &[(Command, Answer)]) -> Option<&(Command, Answer)>
+    ensures { option_copied result ≡ find (λ each. is_recv each.0) doings.now }
 {
-    done.iter().find(|each| is_recv(&each.0))
+    doings.iter().find(|each| is_recv(&each.0))
 }
 
 fn is_recv(command: &Command) -> bool

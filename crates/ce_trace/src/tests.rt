@@ -10,7 +10,7 @@ use crate::words::push_line_feed;
 use ce_daemon::{Grant, Grants, PeekResult};
 use ce_host::{Answer, Command};
 use ce_model::{
-    BlockId, Bytes, Entry, HOST, HOST_HOME, KillFound, LookResult, NoMemory, Place, Status, Stop,
+    BlockId, Bytes, Entry, HOST, HOST_HOME, KillResult, LookResult, NoMemory, Place, Status, Stop,
     Subcube, TakeResult, Targets, What,
 };
 use ce_script::{Name, NamedImage, Record, Script, UserRecord};
@@ -258,7 +258,7 @@ fn get(number: Option<u64>) -> Entry {
     of_host(0, What::HostTake { number })
 }
 
-fn kill(found: KillFound) -> Entry {
+fn kill(found: KillResult) -> Entry {
     let to = place(6, 7);
     of_host(0, What::Kill { pid: 0, to, found })
 }
@@ -269,9 +269,9 @@ fn host_entries(alloc: Global) -> Result<Vec<Entry>, AllocError> {
         look(LookResult::Busy),
         get(Some(12)),
         get(None),
-        kill(KillFound::Killed),
-        kill(KillFound::Unused),
-        kill(KillFound::Already),
+        kill(KillResult::Killed),
+        kill(KillResult::Unused),
+        kill(KillResult::Already),
     ]?)
 }
 

@@ -1,4 +1,5 @@
--- What a command line asks for: what `clap` reads of the words behind the program's name, by the command that the program has.
+-- What a command line asks for: what `clap` reads of the words behind the program's name, by the
+-- command that the program has.
 use Rattle.std.specs.Prelude.{◌≡◌, ℕ, ◌<◌, ◌^◌, Bool, true, false, List, [], Option, Some, codes, option_map, pos, IfSome}
 use Rattle.std.specs.Option.{option_map_or}
 use Rattle.std.specs.Str.{bytes_eq}
@@ -13,33 +14,42 @@ use Rattle.ce_words.specs.declared.line.CommandLine.{CommandLine}
 
 -- the flag for a run on one thread
 abbrev pub serial_rule : Rule
-serial_rule = record (new_rule (codes "serial")) { long = Some (codes "serial"); action = Some SetTrue }
+serial_rule =
+    record (new_rule (codes "serial")) { long = Some (codes "serial"); action = Some SetTrue }
 
 -- the option for a load, with its number
 abbrev pub load_rule : Rule
-load_rule = record (new_rule (codes "load")) { long = Some (codes "load"); parser = Some (Signed (pos 0) (pos 4_294_967_295)) }
+load_rule = record (new_rule (codes "load")) {
+  long = Some (codes "load");
+  parser = Some (Signed (pos 0) (pos 4_294_967_295));
+}
 
 -- it has no options for help or the version, and no word stands for the program itself
 abbrev pub bare_program : App
 bare_program =
-    on_top (λ top. record top { no_binary_name = true; disable_help_flag = true; disable_version_flag = true }) (new_app (codes "ce"))
+    on_top (λ top. record top {
+      no_binary_name = true;
+      disable_help_flag = true;
+      disable_version_flag = true;
+    }) (new_app (codes "ce"))
 
-abbrev pub program : App
-program = with_rule (with_rule bare_program serial_rule) load_rule
+abbrev pub ce_program : App
+ce_program = with_rule (with_rule bare_program serial_rule) load_rule
 
 -- ---- a line
 
 -- what the command finds in the words
 abbrev pub rows : List (List ℕ) → List Row
-rows words = matches_of program words
+rows words = matches_of ce_program words
 
 -- the flag is there
 abbrev pub asks_serial : List Row → Bool
-asks_serial found = option_map_or (λ text. bytes_eq text (codes "true")) (first_of (codes "serial") found) false
+asks_serial found_rows = option_map_or (λ text. bytes_eq text (codes "true"))
+    (first_of (codes "serial") found_rows) false
 
 -- what stands behind the option, where it is there
 abbrev pub load_text : List Row → Option (List ℕ)
-load_text found = one_of (codes "load") found
+load_text found_rows = one_of (codes "load") found_rows
 
 -- the number that a text in decimal digits gives
 abbrev pub number_of : List ℕ → ℕ
@@ -51,12 +61,15 @@ IsNumber text = IsNumeral 10 (without_leading_plus text) × (number_of text < 2 
 
 -- the command takes the words
 pub record IsCommandLine (words : List (List ℕ)) : Type 0 where
-  pub faultless : fault_of program words ≡ []
+  pub faultless : fault_of ce_program words ≡ []
   pub numbered : IfSome (load_text (rows words)) IsNumber
 
 -- what the line asks for
-abbrev pub line_in : List Row → CommandLine
-line_in found = record { is_serial = asks_serial found; load = option_map number_of (load_text found) }
+abbrev pub line_of_rows : List Row → CommandLine
+line_of_rows found_rows = record {
+  is_serial = asks_serial found_rows;
+  load = option_map number_of (load_text found_rows);
+}
 
-abbrev pub asked_line : List (List ℕ) → CommandLine
-asked_line words = line_in (rows words)
+abbrev pub line_of_words : List (List ℕ) → CommandLine
+line_of_words words = line_of_rows (rows words)

@@ -3,8 +3,8 @@ ghost use Rattle.std.specs.Prelude.{◌≡◌, ◌≢◌, [], false, IfOk, IfErr
 ghost use Rattle.std.specs.String.{string_bytes};
 ghost use Rattle.clap.specs.Words.{app_of, fault_of, found_of, kind_of, rows_of, rule_of};
 ghost use Rattle.clap.specs.declared.error.kind.ErrorKind.TheVariants.{OutOfMemory};
-ghost use Rattle.ce_words.specs.Line.{IsCommandLine, IsNumber, asks_serial, asked_line, load_rule, load_text, number_of, program, rows, serial_rule};
-ghost use Rattle.ce_words.specs.declared.line.CommandLineError.TheVariants.{Refused};
+ghost use Rattle.ce_words.specs.Line.{IsCommandLine, IsNumber, asks_serial, line_of_words, load_rule, load_text, number_of, ce_program, rows, serial_rule};
+ghost use Rattle.ce_words.specs.declared.line.CommandLineError.TheVariants.{Usage};
 
 use ce_model::NoMemory;
 use clap::error::ErrorKind;
@@ -26,19 +26,19 @@ pub struct CommandLine {
 pub enum CommandLineError {
     /// It has a word that the program doesn't know, a word too many, or a number that is none.
     #[error("usage")]
-    Refused,
+    Usage,
     /// There is no memory to read it.
     #[error("{0}")]
     Memory(NoMemory),
 }
 
-/// Reads the words behind the program's name: the flag `--serial`, and the option `--load N` with N from 0 to
-/// 4,294,967,295, each once at most. What a line means, and whether it is refused, is what `clap` says of this
-/// command.
+/// Reads the words behind the program's name: the flag `--serial`, and the option `--load N` with N
+/// from 0 to 4,294,967,295, each once at most. What a line means, and whether it is refused, is
+/// what `clap` says of this command.
 pub fn read_line(alloc: Global, words: &[String]) -> Result<CommandLine, CommandLineError>
     ensures accepted { IfOk result (λ _. IsCommandLine (map string_bytes words.now)) }
-    ensures line { IfOk result (λ line. line ≡ asked_line (map string_bytes words.now)) }
-    ensures refused { IsErrOf result Refused → ¬ IsCommandLine (map string_bytes words.now) }
+    ensures line { IfOk result (λ line. line ≡ line_of_words (map string_bytes words.now)) }
+    ensures refused { IsErrOf result Usage → ¬ IsCommandLine (map string_bytes words.now) }
 {
     let matches = read_matches(alloc, words)?;
     Ok(CommandLine {
@@ -50,11 +50,11 @@ pub fn read_line(alloc: Global, words: &[String]) -> Result<CommandLine, Command
 /// What the command finds in the words.
 fn read_matches<'a>(alloc: Global, words: &'a [String]) -> Result<ArgMatches<'a>, CommandLineError>
     ensures faultless { IfOk result
-        (λ _. fault_of program (map string_bytes words.entry.now) ≡ []) }
+        (λ _. fault_of ce_program (map string_bytes words.entry.now) ≡ []) }
     ensures rows { IfOk result (λ matches. rows_of (found_of matches)
         ≡ rows (map string_bytes words.entry.now)) }
-    ensures refused { IsErrOf result Refused
-        → fault_of program (map string_bytes words.entry.now) ≢ [] }
+    ensures refused { IsErrOf result Usage
+        → fault_of ce_program (map string_bytes words.entry.now) ≢ [] }
 {
     let Ok(command) = program(alloc) else {
         return Err(CommandLineError::Memory(NoMemory));
@@ -67,7 +67,7 @@ fn read_matches<'a>(alloc: Global, words: &'a [String]) -> Result<ArgMatches<'a>
 
 /// The command: the flag and the option, and neither help nor version.
 fn program<'a>(alloc: Global) -> Result<Command<'a>, AllocError>
-    ensures { IfOk result (λ command. app_of command ≡ program) }
+    ensures { IfOk result (λ command. app_of command ≡ ce_program) }
 {
     let command = Command::new(alloc, "ce")
         .no_binary_name(true)
@@ -113,17 +113,17 @@ fn load_number(matches: &ArgMatches<'_>) -> Result<Option<u32>, CommandLineError
 {
     match matches.try_get_one::<u32>("load") {
         Ok(number) => Ok(number),
-        Err(_) => Err(CommandLineError::Refused),
+        Err(_) => Err(CommandLineError::Usage),
     }
 }
 
 /// Why the line says nothing, by the error of its matches.
 fn line_error(error: &Error) -> CommandLineError
-    ensures { result ≡ Refused → kind_of error.now ≢ OutOfMemory }
+    ensures { result ≡ Usage → kind_of error.now ≢ OutOfMemory }
 {
     if error.kind() == ErrorKind::OutOfMemory {
         CommandLineError::Memory(NoMemory)
     } else {
-        CommandLineError::Refused
+        CommandLineError::Usage
     }
 }

@@ -50,28 +50,22 @@ fn the_flag_and_the_option_come_in_either_order(rt: HostRuntime) -> Result<(), F
 #[test]
 fn usage(rt: HostRuntime) -> Result<(), Fail> {
     let alloc = rt.alloc();
-    assert_eq!(rt; read(alloc, &["--fast"])?, Err(CommandLineError::Refused));
+    assert_eq!(rt; read(alloc, &["--fast"])?, Err(CommandLineError::Usage));
     assert_eq!(rt;
         read(alloc, &["--load", "4294967296"])?,
-        Err(CommandLineError::Refused)
+        Err(CommandLineError::Usage)
     );
-    assert_eq!(rt; read(alloc, &["--load"])?, Err(CommandLineError::Refused));
+    assert_eq!(rt; read(alloc, &["--load"])?, Err(CommandLineError::Usage));
     assert_eq!(rt;
         read(alloc, &["--load", "ten"])?,
-        Err(CommandLineError::Refused)
+        Err(CommandLineError::Usage)
     );
     assert_eq!(rt;
         read(alloc, &["--serial", "--serial"])?,
-        Err(CommandLineError::Refused)
+        Err(CommandLineError::Usage)
     );
-    assert_eq!(rt;
-        read(alloc, &["script.ce"])?,
-        Err(CommandLineError::Refused)
-    );
-    assert_eq!(rt; read(alloc, &["--help"])?, Err(CommandLineError::Refused));
-    assert_eq!(rt;
-        read(alloc, &["--version"])?,
-        Err(CommandLineError::Refused)
-    );
+    assert_eq!(rt; read(alloc, &["script.ce"])?, Err(CommandLineError::Usage));
+    assert_eq!(rt; read(alloc, &["--help"])?, Err(CommandLineError::Usage));
+    assert_eq!(rt; read(alloc, &["--version"])?, Err(CommandLineError::Usage));
     Ok(())
 }

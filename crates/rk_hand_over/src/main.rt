@@ -1,4 +1,5 @@
-//! Has a process hand a block to itself, as often as the program's one word says, and tells how often it did.
+//! Has a process hand a block to itself, as often as the program's one word says, and tells how
+//! often it did.
 #![tactic(auto)]
 
 use ce_model::{PROCESS_COUNT, WINDOW_COUNT};
@@ -10,8 +11,8 @@ use std::alloc::Global;
 use std::env::Env;
 use std::{env, io};
 
-/// Takes a block, and then over and over sends it to itself, waits for it, and counts in it: a turn that takes the message runs
-/// 12 instructions up to the next xrecvb.
+/// Takes a block, and then over and over sends it to itself, waits for it, and counts in it: a turn
+/// that takes the message runs 12 instructions up to the next xrecvb.
 const IMAGE: &str = "\
         li a0, 4\n\
         li a7, 1\n\
@@ -30,13 +31,14 @@ loop:   li a2, 0\n\
         nop\n\
         j loop\n";
 
-/// How often a process can be handed a block that has taken one before: as often as it has windows left.
+/// How often a process can be handed a block that has taken one before: as often as it has windows
+/// left.
 const PROCESS_HAND_OVERS: u64 = WINDOW_COUNT as u64 - 1;
 
 fn main(rt: HostRuntime) -> io::Result<()> {
     let count = count_of(&rt)?;
     match hand_overs(rt.alloc(), count) {
-        Ok(done) => println!(rt; "{done} hand-overs"),
+        Ok(total) => println!(rt; "{total} hand-overs"),
         Err(fault) => println!(rt; "{fault}"),
     }
 }
@@ -51,34 +53,36 @@ fn count_of<R: Env + AllocGlobal>(rt: &R) -> io::Result<u64> {
 
 /// Makes so many hand-overs: how many there were.
 fn hand_overs(alloc: Global, count: u64) -> Result<u64, RowFault> {
-    let mut done: u64 = 0;
+    let mut total: u64 = 0;
     for _ in 0..count {
-        if done >= count {
-            return Ok(done);
+        if total >= count {
+            return Ok(total);
         }
-        done = done.saturating_add(node_hand_overs(alloc, count - done)?);
+        total = total.saturating_add(node_hand_overs(alloc, count - total)?);
     }
-    Ok(done)
+    Ok(total)
 }
 
-/// Makes so many hand-overs at most, in one node, whose processes hand blocks over one after the other.
-fn node_hand_overs(alloc: Global, most: u64) -> Result<u64, RowFault> {
+/// Makes so many hand-overs at most, in one node, whose processes hand blocks over one after the
+/// other.
+fn node_hand_overs(alloc: Global, greatest: u64) -> Result<u64, RowFault> {
     let mut images = Vec::new(alloc);
     images.push(image(alloc)?)?;
     let mut node = LoneNode::new(alloc, images, false)?;
-    let mut made: u64 = 0;
+    let mut total: u64 = 0;
     for pid in 0..PROCESS_COUNT {
-        if made < most {
-            let before = node.parcels();
-            process_hand_overs(&mut node, pid, (most - made).min(PROCESS_HAND_OVERS))?;
-            let sent = node.parcels().saturating_sub(before);
-            made = made.saturating_add(sent.saturating_sub(1));
+        if total < greatest {
+            let old_count = node.parcels();
+            process_hand_overs(&mut node, pid, (greatest - total).min(PROCESS_HAND_OVERS))?;
+            let parcel_count = node.parcels().saturating_sub(old_count);
+            total = total.saturating_add(parcel_count.saturating_sub(1));
         }
     }
-    Ok(made)
+    Ok(total)
 }
 
-/// Has a process start, send its block, and be handed it so often; a process that has no window left is told so then.
+/// Has a process start, send its block, and be handed it so often; a process that has no window
+/// left is told so then.
 fn process_hand_overs(node: &mut LoneNode, pid: u32, count: u64) -> Result<(), RowFault> {
     node.spawn(0, pid)?;
     node.exchange()?;

@@ -6,7 +6,8 @@ use Rattle.rk_mail.specs.declared.parcel.Item.TheVariants.{Start, Mail, Kill}
 
 -- a parcel, with its block by name and bytes
 abbrev pub parcel_of : Parcel → model.Parcel
-parcel_of parcel = record { from = parcel.from; to = parcel.to; number = parcel.number; block = parcel.block }
+parcel_of parcel =
+    record { from = parcel.from; to = parcel.to; number = parcel.number; block = parcel.block }
 
 -- an item
 abbrev pub item_of : Item → model.Item

@@ -1,9 +1,10 @@
 -- What nodes say and hear in the program, as the model has it.
 use Rattle.std.specs.Prelude.{◌≡◌, ◌⊎◌, Bool, true, false, IsTrue, if◌then◌else◌, List, [], Some}
+use Rattle.ce_model.specs.declared.calls.TheConstants.{DONE, USED_ID, UNUSED_ID, KILLED_BEFORE}
 use Rattle.ce_model.specs.declared.entry.What.{What}
 use Rattle.ce_model.specs.declared.entry.What.TheVariants as whats
-use Rattle.ce_model.specs.declared.entry.KillFound.{KillFound}
-use Rattle.ce_model.specs.declared.entry.KillFound.TheVariants as kill_found
+use Rattle.ce_model.specs.declared.entry.KillResult.{KillResult}
+use Rattle.ce_model.specs.declared.entry.KillResult.TheVariants as kill_result
 use Rattle.ce_model.specs.declared.entry.TakeResult.{TakeResult}
 use Rattle.ce_model.specs.declared.entry.TakeResult.TheVariants as take_result
 use Rattle.ce_model.specs.Parcels.{Item}
@@ -19,12 +20,12 @@ use Rattle.rk_mail.specs.Items.{parcel_of}
 use Rattle.rk_mail.specs.Targets.{bytes_of, targets_of}
 
 -- the call that a node makes by what it says
-abbrev pub call_said : Say → Call
-call_said (say.Take asking dead poller) = take_call asking dead poller
-call_said (say.Send pid batch) = send_call pid (targets_of batch) (bytes_of batch)
-call_said (say.Spawn pid image to) = spawn_call pid image to
-call_said (say.Kill pid to) = kill_call pid to
-call_said (say.Note pid word) = note_call pid word
+abbrev pub call_of_say : Say → Call
+call_of_say (say.Take asking dead poller) = take_call asking dead poller
+call_of_say (say.Send pid batch) = send_call pid (targets_of batch) (bytes_of batch)
+call_of_say (say.Spawn pid image to) = spawn_call pid image to
+call_of_say (say.Kill pid to) = kill_call pid to
+call_of_say (say.Note pid word) = note_call pid word
 
 -- what a node hears
 abbrev pub hearing_model : Hearing → model.Hearing
@@ -34,61 +35,64 @@ hearing_model (Kill pid) = model.kill_of pid
 hearing_model (Poll pid) = model.poll_of pid
 hearing_model Idle = model.nothing
 hearing_model Spent = model.nothing
-hearing_model (Posted batch) = model.answer_of 0
-hearing_model Spawned = model.answer_of 0
-hearing_model Used = model.answer_of 2
-hearing_model Killed = model.answer_of 0
-hearing_model Unused = model.answer_of 2
-hearing_model Already = model.answer_of 3
+hearing_model (Posted batch) = model.answer_of DONE
+hearing_model Spawned = model.answer_of DONE
+hearing_model Used = model.answer_of USED_ID
+hearing_model Killed = model.answer_of DONE
+hearing_model Unused = model.answer_of UNUSED_ID
+hearing_model Already = model.answer_of KILLED_BEFORE
 hearing_model Noted = model.nothing
 
 -- ---- which answers a call can have
 
 -- an answer to a Take
-abbrev pub is_of_take : Hearing → Bool
-is_of_take (Start pid image) = true
-is_of_take (Mail parcel) = true
-is_of_take (Kill pid) = true
-is_of_take (Poll pid) = true
-is_of_take Idle = true
-is_of_take Spent = true
-is_of_take other = false
+abbrev pub is_take_hearing : Hearing → Bool
+is_take_hearing (Start pid image) = true
+is_take_hearing (Mail parcel) = true
+is_take_hearing (Kill pid) = true
+is_take_hearing (Poll pid) = true
+is_take_hearing Idle = true
+is_take_hearing Spent = true
+is_take_hearing other = false
 
 -- the answer is of the kind of the call; a message's batch comes back empty
 abbrev pub IsAnswerTo : Call → Hearing → Type 0
-IsAnswerTo (take_call asking dead poller) heard = IsTrue (is_of_take heard)
-IsAnswerTo (send_call pid to bytes) heard = heard ≡ Posted []
-IsAnswerTo (spawn_call pid image to) heard = (heard ≡ Spawned) ⊎ (heard ≡ Used)
-IsAnswerTo (kill_call pid to) heard = (heard ≡ Killed) ⊎ ((heard ≡ Unused) ⊎ (heard ≡ Already))
-IsAnswerTo (note_call pid word) heard = heard ≡ Noted
-IsAnswerTo other heard = ⊥
+IsAnswerTo (take_call asking dead poller) hearing = IsTrue (is_take_hearing hearing)
+IsAnswerTo (send_call pid to bytes) hearing = hearing ≡ Posted []
+IsAnswerTo (spawn_call pid image to) hearing = (hearing ≡ Spawned) ⊎ (hearing ≡ Used)
+IsAnswerTo (kill_call pid to) hearing =
+    (hearing ≡ Killed) ⊎ ((hearing ≡ Unused) ⊎ (hearing ≡ Already))
+IsAnswerTo (note_call pid word) hearing = hearing ≡ Noted
+IsAnswerTo other hearing = ⊥
 
 -- ---- the answer that an entry has
 
 -- a node that is given this hears so; a parcel is the one of its number among the items that waited
-abbrev pub IsGiven : List Item → TakeResult → Hearing → Type 0
-IsGiven items (take_result.Start pid image) heard = heard ≡ Start pid image
-IsGiven items (take_result.Mail pid number) heard = (parcel : Parcel) × (heard ≡ Mail parcel) × (parcel_numbered number items ≡ Some (parcel_of parcel))
-IsGiven items (take_result.Kill pid) heard = heard ≡ Kill pid
-IsGiven items (take_result.Poll pid) heard = heard ≡ Poll pid
-IsGiven items take_result.Idle heard = heard ≡ Idle
-IsGiven items take_result.Spent heard = heard ≡ Spent
+abbrev pub IsHearingOfTake : List Item → TakeResult → Hearing → Type 0
+IsHearingOfTake items (take_result.Start pid image) hearing = hearing ≡ Start pid image
+IsHearingOfTake items (take_result.Mail pid number) hearing = (parcel : Parcel)
+    × (hearing ≡ Mail parcel) × (parcel_numbered number items ≡ Some (parcel_of parcel))
+IsHearingOfTake items (take_result.Kill pid) hearing = hearing ≡ Kill pid
+IsHearingOfTake items (take_result.Poll pid) hearing = hearing ≡ Poll pid
+IsHearingOfTake items take_result.Idle hearing = hearing ≡ Idle
+IsHearingOfTake items take_result.Spent hearing = hearing ≡ Spent
 
 -- what a process hears of its spawn: whether the id was never used before
 abbrev pub spawn_hearing : Bool → Hearing
 spawn_hearing fresh = if fresh then Spawned else Used
 
 -- what a process hears of its kill
-abbrev pub kill_hearing : KillFound → Hearing
-kill_hearing kill_found.Killed = Killed
-kill_hearing kill_found.Unused = Unused
-kill_hearing kill_found.Already = Already
+abbrev pub kill_hearing : KillResult → Hearing
+kill_hearing kill_result.Killed = Killed
+kill_hearing kill_result.Unused = Unused
+kill_hearing kill_result.Already = Already
 
 -- who made this entry, with these items waiting for it, hears so
-abbrev pub IsHeardIn : List Item → What → Hearing → Type 0
-IsHeardIn items (whats.Take asking dead poller given) heard = IsGiven items given heard
-IsHeardIn items (whats.Send pid first to bytes) heard = heard ≡ Posted []
-IsHeardIn items (whats.Spawn pid image to fresh) heard = heard ≡ spawn_hearing fresh
-IsHeardIn items (whats.Kill pid to found) heard = heard ≡ kill_hearing found
-IsHeardIn items (whats.Note pid word) heard = heard ≡ Noted
-IsHeardIn items other heard = ⊥
+abbrev pub IsHearingOfEntry : List Item → What → Hearing → Type 0
+IsHearingOfEntry items (whats.Take asking dead poller given) hearing =
+    IsHearingOfTake items given hearing
+IsHearingOfEntry items (whats.Send pid first to bytes) hearing = hearing ≡ Posted []
+IsHearingOfEntry items (whats.Spawn pid image to fresh) hearing = hearing ≡ spawn_hearing fresh
+IsHearingOfEntry items (whats.Kill pid to found) hearing = hearing ≡ kill_hearing found
+IsHearingOfEntry items (whats.Note pid word) hearing = hearing ≡ Noted
+IsHearingOfEntry items other hearing = ⊥

@@ -8,8 +8,8 @@ use std::collections::VecDeque;
 use std::marker::Model;
 use xm_block::Block;
 
-/// A message to 1 to `GREATEST_TARGETS` places: for each place the block that carries it there, all of equal bytes; or no
-/// place yet. Contracts see it as the list of places, each with its block.
+/// A message to 1 to `GREATEST_TARGETS` places: for each place the block that carries it there, all
+/// of equal bytes; or no place yet. Contracts see it as the list of places, each with its block.
 #[derive(Drop)]
 pub struct Batch {
     targets: VecDeque<(Place, Block)>,
@@ -64,14 +64,15 @@ impl Batch {
 
     /// Adds the first place, with the block that carries the message. It has no place yet.
     #[tactic(auto, using(ce_model::specs::Limits::greatest_targets_lem))]
-    pub fn first(&mut self, to: Place, block: Block)
+    pub fn add_first(&mut self, to: Place, block: Block)
         requires { self.old ≡ [] }
         ensures { self.new ≡ (to, block) ∷ [] }
     {
         self.targets.push_back_reserved((to, block));
     }
 
-    /// Adds a place, with a block that becomes a copy of the first. It has a place, and fewer than `GREATEST_TARGETS`.
+    /// Adds a place, with a block that becomes a copy of the first. It has a place, and fewer than
+    /// `GREATEST_TARGETS`.
     pub fn add(&mut self, to: Place, mut block: Block)
         requires some { 1 ≤ length self.old }
         requires room { length self.old < greatest_targets }

@@ -1,4 +1,5 @@
-//! The mail of a cube: parcels on their way, what a node says and hears, and the queue of what waits for a node.
+//! The mail of a cube: parcels on their way, what a node says and hears, and the queue of what
+//! waits for a node.
 #![tactic(auto)]
 
 mod batch;

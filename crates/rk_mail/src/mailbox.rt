@@ -12,8 +12,8 @@ use std::alloc::Global;
 use std::collections::VecDeque;
 use std::marker::Model;
 
-/// What waits for a node, in order of arrival, with room for a number of items. Contracts see the items, and for how many
-/// more there is room.
+/// What waits for a node, in order of arrival, with room for a number of items. Contracts see the
+/// items, and for how many more there is room.
 #[derive(Drop)]
 pub struct Mailbox {
     items: VecDeque<Item>,
@@ -55,8 +55,8 @@ impl Mailbox {
         self.items.len() as u32
     }
 
-    /// Adds an item as the last one. There is room for it, and its process id, for mail that of its receiver, is one
-    /// that a node has.
+    /// Adds an item as the last one. There is room for it, and its process id, for mail that of its
+    /// receiver, is one that a node has.
     pub fn post(&mut self, item: Item)
         requires room { 1 ≤ self.old.spare }
         requires process { item_id (item_of item) < process_count }
@@ -66,16 +66,16 @@ impl Mailbox {
         self.items.push_back_reserved(item);
     }
 
-    /// Whether an item can be given to a node of which the processes in `asking` wait for a message and those in
-    /// `dead` have stopped, one bit each.
+    /// Whether an item can be given to a node of which the processes in `asking` wait for a message
+    /// and those in `dead` have stopped, one bit each.
     pub fn has(&self, asking: u32, dead: u32) -> bool
         ensures { result ≡ list_any (is_eligible asking dead) self.now.items }
     {
         has_eligible(&self.items, asking, dead)
     }
 
-    /// Takes out the first item that can be given to such a node; None exactly where there is none. The others stay in
-    /// their order.
+    /// Takes out the first item that can be given to such a node; None exactly where there is none.
+    /// The others stay in their order.
     pub fn next(&mut self, asking: u32, dead: u32) -> Option<Item>
         ensures first { option_map item_of result ≡ find (is_eligible asking dead) self.old.items }
         ensures rest { self.new.items ≡ without_first (is_eligible asking dead) self.old.items }

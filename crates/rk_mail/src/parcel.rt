@@ -37,8 +37,8 @@ pub enum Item {
     },
 }
 
-// Whether the item can be given to a node of which the processes in `asking` wait for a message and those in `dead`
-// have stopped.
+// Whether the item can be given to a node of which the processes in `asking` wait for a message and
+// those in `dead` have stopped.
 pub(crate) fn is_eligible(item: &Item, asking: u32, dead: u32) -> bool
     ensures { result ≡ is_eligible asking dead (item_of item.now) }
 {

@@ -2,7 +2,7 @@ ghost use Rattle.std.specs.Prelude.{◌≡◌};
 ghost use Rattle.rk_mail.specs.Talk.{spawn_hearing, kill_hearing};
 
 use crate::{Batch, Parcel};
-use ce_model::{KillFound, Place};
+use ce_model::{KillResult, Place};
 
 /// What a node asks the machine for.
 #[derive(Drop)]
@@ -102,12 +102,12 @@ pub fn spawn_hearing(fresh: bool) -> Hearing
 }
 
 /// What a process hears of its kill, by what the machine found.
-pub fn kill_hearing(found: KillFound) -> Hearing
+pub fn kill_hearing(found: KillResult) -> Hearing
     ensures { result ≡ kill_hearing found }
 {
     match found {
-        KillFound::Killed => Hearing::Killed,
-        KillFound::Unused => Hearing::Unused,
-        KillFound::Already => Hearing::Already,
+        KillResult::Killed => Hearing::Killed,
+        KillResult::Unused => Hearing::Unused,
+        KillResult::Already => Hearing::Already,
     }
 }

@@ -72,7 +72,7 @@ fn blocks_of_a_batch_are_copies(rt: HostRuntime) -> Result<(), Fail> {
     let mut first = Block::new(alloc, BlockId { home: 0, index: 4 })?;
     first.fill(b"hello");
     let second = Block::new(alloc, BlockId { home: 1, index: 2 })?;
-    batch.first(Place { node: 2, pid: 0 }, first);
+    batch.add_first(Place { node: 2, pid: 0 }, first);
     batch.add(Place { node: 3, pid: 1 }, second);
     assert_eq!(rt; batch.count(), 2);
     assert_eq!(rt; batch.bytes(), b"hello".as_slice());

@@ -23,13 +23,13 @@ use Rattle.ce_solo.proofs.HandedOver.{member-of}
 use Rattle.rk_mail.specs.declared.talk.Hearing.{Hearing}
 use Rattle.rk_mail.specs.declared.talk.Hearing.TheVariants.{Start, Mail, Kill, Poll, Idle, Spent, Posted, Spawned, Used, Killed, Unused, Already, Noted}
 use Rattle.rk_mail.specs.Items.{parcel_of}
-use Rattle.rk_mail.specs.Talk.{hearing_model, is_of_take, IsAnswerTo}
+use Rattle.rk_mail.specs.Talk.{hearing_model, is_take_hearing, IsAnswerTo}
 use Rattle.rk_node.specs.declared.node.Node as code
 use Rattle.rk_node.specs.Boxes.{Box}
 use Rattle.rk_node.specs.Standing.{node_model}
 use Rattle.rk_node.specs.Wording.{HasBatch}
-use Rattle.rk_node.specs.Answering.{IsAwaitingAnswer, IsWork, IsAbleToHear}
-use Rattle.rk_node.specs.Hearings.{IsWorkOf, HasRoomToHear, batch_after}
+use Rattle.rk_node.specs.Answering.{IsAwaitingAnswer, IsBoxWork, IsAbleToHear}
+use Rattle.rk_node.specs.Hearings.{IsNodeWork, HasRoomToHear, batch_after_hearing}
 use Rattle.rk_node.proofs.Counted.{count-blocks}
 use Rattle.rk_node.proofs.Heard.{apart-stored, once-stored}
 use Rattle.rk_node.proofs.Polling.{polls-head}
@@ -116,22 +116,22 @@ born_status (Stopped cause) h = refl
 -- ---- what was said
 
 -- only a Take is answered by something to do, and it is said without a turn
-pub take-idle : (box : Box) (call : Call) (heard : Hearing) → IsAwaitingAnswer box call → IsAnswerTo call heard → is_of_take heard ≡ true → box.node.turn ≡ None
-take-idle box (take_call asking dead poller) heard said answer h = said.1
-take-idle box (send_call pid to bytes) heard said answer h = absurd (both_ways _ (ap is_of_take answer) h)
-take-idle box (spawn_call pid image to) heard said answer h =
-    elim answer [ inl e ↦ absurd (both_ways _ (ap is_of_take e) h) | inr e ↦ absurd (both_ways _ (ap is_of_take e) h) ]
-take-idle box (kill_call pid to) heard said answer h =
+pub take-idle : (box : Box) (call : Call) (hearing : Hearing) → IsAwaitingAnswer box call → IsAnswerTo call hearing → is_take_hearing hearing ≡ true → box.node.turn ≡ None
+take-idle box (take_call asking dead poller) hearing said answer h = said.1
+take-idle box (send_call pid to bytes) hearing said answer h = absurd (both_ways _ (ap is_take_hearing answer) h)
+take-idle box (spawn_call pid image to) hearing said answer h =
+    elim answer [ inl e ↦ absurd (both_ways _ (ap is_take_hearing e) h) | inr e ↦ absurd (both_ways _ (ap is_take_hearing e) h) ]
+take-idle box (kill_call pid to) hearing said answer h =
     elim answer [
-      | inl e ↦ absurd (both_ways _ (ap is_of_take e) h)
-      | inr others ↦ elim others [ inl e ↦ absurd (both_ways _ (ap is_of_take e) h) | inr e ↦ absurd (both_ways _ (ap is_of_take e) h) ]
+      | inl e ↦ absurd (both_ways _ (ap is_take_hearing e) h)
+      | inr others ↦ elim others [ inl e ↦ absurd (both_ways _ (ap is_take_hearing e) h) | inr e ↦ absurd (both_ways _ (ap is_take_hearing e) h) ]
     ]
-take-idle box (note_call pid word) heard said answer h = absurd (both_ways _ (ap is_of_take answer) h)
-take-idle box (arm_call n) heard said answer h = absurd answer
-take-idle box look_call heard said answer h = absurd answer
-take-idle box mail_call heard said answer h = absurd answer
+take-idle box (note_call pid word) hearing said answer h = absurd (both_ways _ (ap is_take_hearing answer) h)
+take-idle box (arm_call n) hearing said answer h = absurd answer
+take-idle box look_call hearing said answer h = absurd answer
+take-idle box mail_call hearing said answer h = absurd answer
 
-take-keeps : (heard : Hearing) (batch : Option (List (Place × Block))) → is_of_take heard ≡ true → batch_after heard batch ≡ batch
+take-keeps : (hearing : Hearing) (batch : Option (List (Place × Block))) → is_take_hearing hearing ≡ true → batch_after_hearing hearing batch ≡ batch
 take-keeps (Start pid image) batch h = refl
 take-keeps (Mail parcel) batch h = refl
 take-keeps (Kill pid) batch h = refl
@@ -147,25 +147,25 @@ take-keeps Already batch h = refl
 take-keeps Noted batch h = refl
 
 -- the spare batch is here and empty once the answer was heard
-pub heard-batch : (box : Box) (call : Call) (heard : Hearing) (batch : Option (List (Place × Block))) → IsAwaitingAnswer box call → IsAnswerTo call heard → HasBatch box.out batch
-    → batch_after heard batch ≡ Some []
-heard-batch box (take_call asking dead poller) heard batch said answer has =
-    let here : batch ≡ Some [] = subst (λ o. HasBatch o batch) said.0 has in take-keeps heard batch answer ∙ here
-heard-batch box (send_call pid to bytes) heard batch said answer has = ap (λ h. batch_after h batch) answer
-heard-batch box (spawn_call pid image to) heard batch said answer has =
+pub heard-batch : (box : Box) (call : Call) (hearing : Hearing) (batch : Option (List (Place × Block))) → IsAwaitingAnswer box call → IsAnswerTo call hearing → HasBatch box.awaited_call batch
+    → batch_after_hearing hearing batch ≡ Some []
+heard-batch box (take_call asking dead poller) hearing batch said answer has =
+    let here : batch ≡ Some [] = subst (λ o. HasBatch o batch) said.0 has in take-keeps hearing batch answer ∙ here
+heard-batch box (send_call pid to bytes) hearing batch said answer has = ap (λ h. batch_after_hearing h batch) answer
+heard-batch box (spawn_call pid image to) hearing batch said answer has =
     let here : batch ≡ Some [] = subst (λ o. HasBatch o batch) (sym said) has in
-    elim answer [ inl e ↦ ap (λ h. batch_after h batch) e ∙ here | inr e ↦ ap (λ h. batch_after h batch) e ∙ here ]
-heard-batch box (kill_call pid to) heard batch said answer has =
+    elim answer [ inl e ↦ ap (λ h. batch_after_hearing h batch) e ∙ here | inr e ↦ ap (λ h. batch_after_hearing h batch) e ∙ here ]
+heard-batch box (kill_call pid to) hearing batch said answer has =
     let here : batch ≡ Some [] = subst (λ o. HasBatch o batch) (sym said) has in
     elim answer [
-      | inl e ↦ ap (λ h. batch_after h batch) e ∙ here
-      | inr others ↦ elim others [ inl e ↦ ap (λ h. batch_after h batch) e ∙ here | inr e ↦ ap (λ h. batch_after h batch) e ∙ here ]
+      | inl e ↦ ap (λ h. batch_after_hearing h batch) e ∙ here
+      | inr others ↦ elim others [ inl e ↦ ap (λ h. batch_after_hearing h batch) e ∙ here | inr e ↦ ap (λ h. batch_after_hearing h batch) e ∙ here ]
     ]
-heard-batch box (note_call pid word) heard batch said answer has =
-    let here : batch ≡ Some [] = subst (λ o. HasBatch o batch) (sym said) has in ap (λ h. batch_after h batch) answer ∙ here
-heard-batch box (arm_call n) heard batch said answer has = absurd answer
-heard-batch box look_call heard batch said answer has = absurd answer
-heard-batch box mail_call heard batch said answer has = absurd answer
+heard-batch box (note_call pid word) hearing batch said answer has =
+    let here : batch ≡ Some [] = subst (λ o. HasBatch o batch) (sym said) has in ap (λ h. batch_after_hearing h batch) answer ∙ here
+heard-batch box (arm_call n) hearing batch said answer has = absurd answer
+heard-batch box look_call hearing batch said answer has = absurd answer
+heard-batch box mail_call hearing batch said answer has = absurd answer
 
 -- ---- the node once it has heard
 
@@ -178,7 +178,7 @@ module _ (images : List ImageParts) (box : Box) (well : IsWell box.node.turn box
   well-idle : box.node.turn ≡ None → IsWell None box.node
   well-idle none = subst (λ turn. IsWell turn box.node) none well
 
-  pub work-of : (heard : Hearing) → IsAbleToHear images box heard → IsWorkOf images box.node heard
+  pub work-of : (hearing : Hearing) → IsAbleToHear images box hearing → IsNodeWork images box.node hearing
   work-of (Start pid image) can = can.work
   work-of (Mail parcel) can = (
     take-idle box can.call (Mail parcel) can.said can.answer refl,
@@ -197,7 +197,7 @@ module _ (images : List ImageParts) (box : Box) (well : IsWell box.node.turn box
   work-of Already can = tt
   work-of Noted can = tt
 
-  pub hears-well : (heard : Hearing) → IsAbleToHear images box heard → IsWellNow (model.node_after_hearing images box.node (hearing_model heard))
+  pub hears-well : (hearing : Hearing) → IsAbleToHear images box hearing → IsWellNow (model.node_after_hearing images box.node (hearing_model hearing))
   hears-well (Start pid image) can =
       let none = take-idle box can.call (Start pid image) can.said can.answer refl in
       let begins = start-begins images box.node pid image (well-idle none) can.work.0 (ap is_unborn can.work.1) in
@@ -223,8 +223,8 @@ module _ (images : List ImageParts) (box : Box) (well : IsWell box.node.turn box
   hears-well Noted can = (nothing-hears images box.node well sound).became.well
 
 -- there is room for what the node is given
-pub room-for : (images : List ImageParts) (box : Box) (node : code.Node) (heard : Hearing) → box.node ≡ node_model node → box.room ≡ node.room
-    → IsWork images box heard → HasRoomToHear heard node
+pub room-for : (images : List ImageParts) (box : Box) (node : code.Node) (hearing : Hearing) → box.node ≡ node_model node → box.room ≡ node.room
+    → IsBoxWork images box hearing → HasRoomToHear hearing node
 room-for images box node (Mail parcel) same room work =
     omega (arith, work.room, room, ap (λ (n : Node). length (blocks_of n)) same, count-blocks node)
 room-for images box node (Start pid image) same room work = tt

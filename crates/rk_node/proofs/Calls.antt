@@ -14,7 +14,7 @@ use Rattle.rk_node.specs.declared.node.Node.{Node}
 use Rattle.rk_node.specs.declared.turn.CallEnd as code
 use Rattle.rk_node.specs.Standing.{node_model}
 use Rattle.rk_node.specs.Ready.{IsInTurn}
-use Rattle.rk_node.specs.Wording.{HasMade}
+use Rattle.rk_node.specs.Wording.{HasDoneCall}
 use Rattle.rk_node.proofs.Made.{made-as}
 
 pub in_turn-more : {node : Node} {turn : model.Turn} → IsInTurn node turn → IsInTurn node (one_call_more turn)
@@ -84,9 +84,9 @@ is_note number h a b d e = elim (cases_lt number 15) [
 
 -- the call of this number does what a word of the kernel does with one call more
 pub made-counted : {word : model.Node → model.Turn → Process → CallOutcome} {number k : ℕ} {before after : Node} {turn : model.Turn} {outcome : code.CallEnd}
-    → HasMade word before after (one_call_more turn) (one_call_more turn) outcome → number ≡ k → turn.calls < turn_calls
+    → HasDoneCall word before after (one_call_more turn) (one_call_more turn) outcome → number ≡ k → turn.calls < turn_calls
     → ((node : model.Node) (p : Process) → nat_lt turn.calls turn_calls ≡ true → call_outcome (kernel_call k) node turn p ≡ word node (one_call_more turn) p)
-    → HasMade (call_outcome (kernel_call number)) before after turn (one_call_more turn) outcome
+    → HasDoneCall (call_outcome (kernel_call number)) before after turn (one_call_more turn) outcome
 made-counted {before = before} {turn = turn} made same less counts =
     let n = node_model before in
     let p = model.process_at n turn.pid in
@@ -95,8 +95,8 @@ made-counted {before = before} {turn = turn} made same less counts =
 -- ---- all calls
 
 pub made-number : {number : ℕ} {before after : Node} {turn turn' : model.Turn} {outcome : code.CallEnd}
-    → HasMade (call_outcome (kernel_call number)) before after turn turn' outcome → number ≡ argument (model.process_at (node_model before) turn.pid) 7
-    → HasMade kernel before after turn turn' outcome
+    → HasDoneCall (call_outcome (kernel_call number)) before after turn turn' outcome → number ≡ argument (model.process_at (node_model before) turn.pid) 7
+    → HasDoneCall kernel before after turn turn' outcome
 unfolding kernel
 made-number {before = before} {turn = turn} made read =
     let n = node_model before in
@@ -105,8 +105,8 @@ made-number {before = before} {turn = turn} made read =
 
 -- the call of this number does what a word of the kernel does
 pub made-call : {word : model.Node → model.Turn → Process → CallOutcome} {number k : ℕ} {before after : Node} {turn turn' : model.Turn} {outcome : code.CallEnd}
-    → HasMade word before after turn turn' outcome → number ≡ argument (model.process_at (node_model before) turn.pid) 7 → number ≡ k
-    → ((node : model.Node) (p : Process) → call_outcome (kernel_call k) node turn p ≡ word node turn p) → HasMade kernel before after turn turn' outcome
+    → HasDoneCall word before after turn turn' outcome → number ≡ argument (model.process_at (node_model before) turn.pid) 7 → number ≡ k
+    → ((node : model.Node) (p : Process) → call_outcome (kernel_call k) node turn p ≡ word node turn p) → HasDoneCall kernel before after turn turn' outcome
 made-call {before = before} {turn = turn} made read same does =
     let n = node_model before in
     let p = model.process_at n turn.pid in
@@ -120,8 +120,8 @@ call_none number a b c d e f g h i j k l m n = elim (cases_lt number 15) [
 ]
 
 pub made-none : {number : ℕ} {before after : Node} {turn turn' : model.Turn} {outcome : code.CallEnd}
-    → HasMade (λ node turn p. stop_outcome node turn p (NoCall number)) before after turn turn' outcome → number ≡ argument (model.process_at (node_model before) turn.pid) 7
-    → kernel_call number ≡ None → HasMade kernel before after turn turn' outcome
+    → HasDoneCall (λ node turn p. stop_outcome node turn p (NoCall number)) before after turn turn' outcome → number ≡ argument (model.process_at (node_model before) turn.pid) 7
+    → kernel_call number ≡ None → HasDoneCall kernel before after turn turn' outcome
 made-none {before = before} {turn = turn} made read none =
     let n = node_model before in
     let p = model.process_at n turn.pid in

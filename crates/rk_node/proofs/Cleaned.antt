@@ -7,8 +7,8 @@ use Rattle.ce_model.specs.Blocks.{is_lower, with_id, with_ids, blocks_of_home}
 use Rattle.ce_model.specs.Kernel.{with_store}
 use Rattle.ce_model.specs.Sound.{AreInOrder}
 use Rattle.ce_solo.proofs.Counting.{hit, hit-self, same_from_hit, count, count-nil, count-cons, count-put_all, all-at_name, precedes-trans, rising-put_all}
-use Rattle.rk_node.specs.declared.out.Out.TheVariants.{Nothing}
-use Rattle.rk_node.specs.Boxes.{Box, IsClean, scrubbed_node}
+use Rattle.rk_node.specs.declared.awaited_call.AwaitedCall.TheVariants.{Nothing}
+use Rattle.rk_node.specs.Boxes.{Box, IsCleanBox, scrubbed_node}
 use Rattle.rk_node.specs.Laws.{box_with_all, AreBlocksOfHome}
 use Rattle.rk_node.proofs.Sorted.{not_self, once-rising, rising-home}
 
@@ -65,9 +65,9 @@ home-again home ids all =
     (rising-put_all ids [] tt (λ id. omega (arith, all id, count-nil id, once-rising id (blocks_of_home home) (rising-home home))))
     (rising-home home) (λ id. omega (arith, all id, count-put_all id ids [], count-nil id))
 
-pub scrubbed-clean : (box : Box) (ids : List BlockId) → box.out ≡ Nothing → greatest_blocks ≤ box.room
-    → AreBlocksOfHome box.node.home ids → IsClean (box_with_all ids (record box { node = scrubbed_node box.node }))
+pub scrubbed-clean : (box : Box) (ids : List BlockId) → box.awaited_call ≡ Nothing → greatest_blocks ≤ box.room
+    → AreBlocksOfHome box.node.home ids → IsCleanBox (box_with_all ids (record box { node = scrubbed_node box.node }))
 scrubbed-clean box ids idle room all =
     let empty : Box = record box { node = scrubbed_node box.node } in
-    subst IsClean (sym (all-put_home ids empty))
-    record { node = ap (λ store. with_store store (scrubbed_node box.node)) (home-again box.node.home ids all); out = idle; room = room }
+    subst IsCleanBox (sym (all-put_home ids empty))
+    record { node = ap (λ store. with_store store (scrubbed_node box.node)) (home-again box.node.home ids all); awaited_call = idle; room = room }

@@ -4,6 +4,7 @@ use Rattle.std.proofs.lemmas.Bool.{lt-ltb, le-ltb}
 use Rattle.std.proofs.lemmas.List.{map-append}
 use Rattle.rv_model.specs.declared.stop.Stop.{Stop}
 use Rattle.rv_model.specs.Word.{wrapping_sum}
+use Rattle.ce_model.specs.declared.calls.TheConstants.{TOO_MANY_PLACES}
 use Rattle.ce_model.specs.declared.topology.Place.{Place}
 use Rattle.ce_model.specs.declared.topology.BlockId.{BlockId}
 use Rattle.ce_model.specs.Limits.{greatest_targets}
@@ -28,37 +29,37 @@ take-set (x ∷ xs) zero place rest h = refl
 take-set (x ∷ xs) (suc i) place rest h = ap (λ ys. x ∷ ys) (take-set xs i place rest (omega arith))
 
 -- what the places read so far, in front of what the rest gives, come to
-abbrev pub read_on : Space → ℕ → ℕ → ℕ → List Place → Result (List Place) Stop
-read_on space at i count places = result_map (λ rest. take i places ++ rest) (places_at space at count)
+abbrev pub later_places : Space → ℕ → ℕ → ℕ → List Place → Result (List Place) Stop
+later_places space at i count places = result_map (λ rest. take i places ++ rest) (places_at space at count)
 
 pub read-place : (space : Space) (at i n : ℕ) (places : List Place) (place : Place) → i < n → length places ≡ n → memory_place space at ≡ Ok place
-    → read_on space (wrapping_sum at 8) (i + 1) (n - (i + 1)) (slice_set places i place) ≡ read_on space at i (n - i) places
+    → later_places space (wrapping_sum at 8) (i + 1) (n - (i + 1)) (slice_set places i place) ≡ later_places space at i (n - i) places
 read-place space at i n places place h long read =
     let m = n - (i + 1) in
     let more : n - i ≡ suc m = omega arith in
     sym (
-    ap (λ k. read_on space at i k places) more
+    ap (λ k. later_places space at i k places) more
     ∙ ap (λ r. result_map (λ rest. take i places ++ rest) (and_then r (λ place. result_map (λ places. place ∷ places) (places_at space (wrapping_sum at 8) m)))) read
     ∙ map-map (λ rest. take i places ++ rest) (λ rest. place ∷ rest) (λ rest. take (i + 1) (slice_set places i place) ++ rest) (places_at space (wrapping_sum at 8) m)
     (λ rest. sym (ap (λ k. take k (slice_set places i place) ++ rest) (add-one i) ∙ take-set places i place rest (omega arith)))
     )
 
 pub read-fault : (space : Space) (at i n : ℕ) (places : List Place) (cause : Stop) → i < n → memory_place space at ≡ Err cause
-    → read_on space at i (n - i) places ≡ Err cause
+    → later_places space at i (n - i) places ≡ Err cause
 read-fault space at i n places cause h read =
     let m = n - (i + 1) in
     let more : n - i ≡ suc m = omega arith in
-    ap (λ k. read_on space at i k places) more
+    ap (λ k. later_places space at i k places) more
     ∙ ap (λ r. result_map (λ rest. take i places ++ rest) (and_then r (λ place. result_map (λ places. place ∷ places) (places_at space (wrapping_sum at 8) m)))) read
 
 take-all : (places : List Place) → take (length places) places ++ [] ≡ places
 take-all [] = refl
 take-all (x ∷ xs) = ap (λ ys. x ∷ ys) (take-all xs)
 
-pub read-all : (space : Space) (at i n : ℕ) (places : List Place) → length places ≡ i → n ≡ i → read_on space at i (n - i) places ≡ Ok places
+pub read-all : (space : Space) (at i n : ℕ) (places : List Place) → length places ≡ i → n ≡ i → later_places space at i (n - i) places ≡ Ok places
 read-all space at i n places long same =
     let none : n - i ≡ 0 = omega arith in
-    ap (λ k. read_on space at i k places) none
+    ap (λ k. later_places space at i k places) none
     ∙ ap {B = Result (List Place) Stop} (λ k. Ok (take k places ++ [])) (sym long) ∙ ap Ok (take-all places)
 
 -- ---- copies
@@ -113,7 +114,7 @@ for_each None P each = tt
 for_each (Some x) P each = each x
 
 pub too_many : (node : model.Node) (turn : model.Turn) (p : Process) (found : ℕ × Block) → greatest_targets < argument p 1
-    → xmsend_block node turn p found ≡ return_outcome node turn p 3
+    → xmsend_block node turn p found ≡ return_outcome node turn p TOO_MANY_PLACES
 too_many node turn p found h = rw (lt-ltb greatest_targets (argument p 1) h) refl
 
 pub places-read : (node : model.Node) (turn : model.Turn) (p : Process) (found : ℕ × Block) (r : Result (List Place) Stop) (count at : ℕ)

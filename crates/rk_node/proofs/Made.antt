@@ -14,17 +14,17 @@ use Rattle.xm_owner.specs.Holdings.{Mapping, block_held_at}
 use Rattle.ce_solo.proofs.Counting.{hit-self, count, count-append}
 use Rattle.ce_solo.proofs.Windows.{count-unmapped}
 use Rattle.ce_solo.proofs.Nodes.{IsWell}
-use Rattle.rk_process.specs.Seen.{Own, place_of, unborn_own}
+use Rattle.rk_process.specs.OwnStates.{OwnState, place_of, unborn_state}
 use Rattle.rk_process.proofs.Found.{slice_get-windows_of}
 use Rattle.rk_node.specs.declared.node.Node.{Node}
 use Rattle.rk_node.specs.declared.turn.CallEnd as code
 use Rattle.rk_node.specs.declared.turn.BlockCall.{BlockCall}
 use Rattle.rk_node.specs.Standing.{node_model, processes_of}
-use Rattle.rk_node.specs.Tables.{AreWithin}
-use Rattle.rk_node.specs.Ready.{IsOnce}
-use Rattle.rk_node.specs.Moves.{IsNamed}
-use Rattle.rk_node.specs.Wording.{HasMade}
-use Rattle.rk_node.specs.BlockCalls.{found_outcome, block_outcome, HasMadeAt}
+use Rattle.rk_node.specs.Tables.{AreUsedWindows}
+use Rattle.rk_node.specs.Ready.{HasBlocksOnce}
+use Rattle.rk_node.specs.Moves.{IsWindowOfAddress}
+use Rattle.rk_node.specs.Wording.{HasDoneCall}
+use Rattle.rk_node.specs.BlockCalls.{block_call_outcome, block_outcome, HasDoneBlockCall}
 use Rattle.rk_node.proofs.Windows.{used-held}
 use Rattle.rk_node.proofs.Names.{once-process}
 use Rattle.rk_node.proofs.Processes.{process_of-at, process-read, used-read}
@@ -32,9 +32,9 @@ use Rattle.rk_node.proofs.Stops.{changed-twice}
 
 -- a call that does the same as another
 pub made-as : {word word' : model.Node → model.Turn → Process → CallOutcome} {before after : Node} {turn now turn' : model.Turn} {outcome : code.CallEnd}
-    → HasMade word before after turn turn' outcome
+    → HasDoneCall word before after turn turn' outcome
     → word' (node_model before) now (model.process_at (node_model before) now.pid) ≡ word (node_model before) turn (model.process_at (node_model before) turn.pid)
-    → HasMade word' before after now turn' outcome
+    → HasDoneCall word' before after now turn' outcome
 made-as made same = record { did = made.did ∙ sym same; batch = made.batch; room = made.room }
 
 -- an answer to a process that was changed
@@ -74,14 +74,14 @@ named-reading node turn p a r onward same named =
     ap (λ a. read_outcome node turn p (block_named p.space a) onward) (sym same) ∙ ap (λ r. read_outcome node turn p r onward) named
 
 -- a block that is held is at its window
-pub window-held : (m : List Mapping) (owns : List Own) (pid k : ℕ) (block : Block) → pid < length owns → AreWithin owns (map place_of m)
+pub window-held : (m : List Mapping) (owns : List OwnState) (pid k : ℕ) (block : Block) → pid < length owns → AreUsedWindows owns (map place_of m)
     → block_held_at m pid k ≡ Some block → slice_get (slice_index_or (processes_of m owns) pid unborn_process).space.windows k ≡ Some (Some block)
 window-held m owns pid k block h within held =
     ap (λ (p : Process). slice_get p.space.windows k) (process_of-at m owns pid h)
-    ∙ slice_get-windows_of m pid (slice_index_or owns pid unborn_own).used_count k (used-held owns m pid k block within held) ∙ ap Some held
+    ∙ slice_get-windows_of m pid (slice_index_or owns pid unborn_state).used_count k (used-held owns m pid k block within held) ∙ ap Some held
 
 -- so its name isn't in the store
-pub store-apart : (node : model.Node) (pid k : ℕ) (block : Block) → IsOnce node → pid < length node.processes
+pub store-apart : (node : model.Node) (pid k : ℕ) (block : Block) → HasBlocksOnce node → pid < length node.processes
     → slice_get (model.process_at node pid).space.windows k ≡ Some (Some block) → count block.id node.store ≡ 0
 store-apart node pid k block once h at =
     omega (
@@ -92,7 +92,7 @@ store-apart node pid k block once h at =
       hit-self block.id,
     )
 
-pub well-once : (turn : Option model.Turn) (node : model.Node) → IsWell turn node → IsOnce node
+pub well-once : (turn : Option model.Turn) (node : model.Node) → IsWell turn node → HasBlocksOnce node
 well-once turn node well = record { once = well.once }
 
 pub is_held : {X : Type 0} {o : Option X} {x : X} → o ≡ Some x → IsSome o
@@ -110,25 +110,25 @@ at-some (Some y) x P e p = let same : y ≡ x = cc in subst P same p
 pub made-named : {call call' : BlockCall} {before after : Node} {turn : model.Turn} {outcome : code.CallEnd} {a window : ℕ} {block : Block}
     → a ≡ argument (model.process_at (node_model before) turn.pid) 0 → block_held_at before.held_blocks.mappings turn.pid window ≡ Some block
     → block_named (model.process_at (node_model before) turn.pid).space a ≡ Ok (window, block) → call ≡ call'
-    → HasMadeAt window (found_outcome call') before after turn outcome → HasMade (block_outcome call) before after turn turn outcome
+    → HasDoneBlockCall window (block_call_outcome call') before after turn outcome → HasDoneCall (block_outcome call) before after turn turn outcome
 made-named {call' = call'} {before = before} {after = after} {turn = turn} {outcome = outcome} {window = window} {block = block} same there named is made =
     let n = node_model before in
     let p = model.process_at n turn.pid in
-    made-as (at-some _ block (λ block. HasMade (λ node turn p. found_outcome call' node turn p (window, block)) before after turn turn outcome) there made)
-    (ap (λ call. block_outcome call n turn p) is ∙ named-reading n turn p _ _ (found_outcome call' n turn p) same named)
+    made-as (at-some _ block (λ block. HasDoneCall (λ node turn p. block_call_outcome call' node turn p (window, block)) before after turn turn outcome) there made)
+    (ap (λ call. block_outcome call n turn p) is ∙ named-reading n turn p _ _ (block_call_outcome call' n turn p) same named)
 
 -- a call that names none
 pub made-refused : (call : BlockCall) {before after : Node} {turn : model.Turn} {outcome : code.CallEnd} {a : ℕ} {cause : Stop}
     → a ≡ argument (model.process_at (node_model before) turn.pid) 0 → block_named (model.process_at (node_model before) turn.pid).space a ≡ Err cause
-    → HasMade (λ node turn p. stop_outcome node turn p cause) before after turn turn outcome → HasMade (block_outcome call) before after turn turn outcome
+    → HasDoneCall (λ node turn p. stop_outcome node turn p cause) before after turn turn outcome → HasDoneCall (block_outcome call) before after turn turn outcome
 made-refused call {before = before} {turn = turn} same named made =
     let n = node_model before in
     let p = model.process_at n turn.pid in
-    made-as made (named-reading n turn p _ _ (found_outcome call n turn p) same named)
+    made-as made (named-reading n turn p _ _ (block_call_outcome call n turn p) same named)
 
 -- the block at a window that holds one, or none
 pub named_here : (block_at : ℕ → Option Block) (at : Option (Option Block)) (window a : ℕ) (block : Block) → block_at window ≡ Some block → at ≡ Some (block_at window)
-    → window ≡ window_of a → IsNamed block_at (block_at_window at a) (Ok window)
+    → window ≡ window_of a → IsWindowOfAddress block_at (block_at_window at a) (Ok window)
 named_here block_at at window a block h there same =
     (block, h, ap (λ o. block_at_window o a) (there ∙ ap Some h) ∙ ap {B = Result (ℕ × Block) Stop} (λ w. Ok (w, block)) (sym same))
 
@@ -136,12 +136,12 @@ pub gone_here : (block_at : ℕ → Option Block) (at : Option (Option Block)) (
 gone_here block_at at window a h there = ap (λ o. block_at_window o a) (there ∙ ap Some h)
 
 -- what the list of a process's windows has for one
-pub at-window : (m : List Mapping) (owns : List Own) (pid : ℕ) (own : Own) (k : ℕ) → pid < length owns → own ≡ slice_index_or owns pid own → k < own.used_count
+pub at-window : (m : List Mapping) (owns : List OwnState) (pid : ℕ) (own : OwnState) (k : ℕ) → pid < length owns → own ≡ slice_index_or owns pid own → k < own.used_count
     → slice_get (slice_index_or (processes_of m owns) pid unborn_process).space.windows k ≡ Some (block_held_at m pid k)
 at-window m owns pid own k h read less =
     ap (λ (p : Process). slice_get p.space.windows k) (process-read m owns pid own h read) ∙ slice_get-windows_of m pid own.used_count k less
 
-pub past-windows : (m : List Mapping) (owns : List Own) (pid : ℕ) (own : Own) (k : ℕ) → pid < length owns → own ≡ slice_index_or owns pid own → own.used_count ≤ k
+pub past-windows : (m : List Mapping) (owns : List OwnState) (pid : ℕ) (own : OwnState) (k : ℕ) → pid < length owns → own ≡ slice_index_or owns pid own → own.used_count ≤ k
     → slice_get (slice_index_or (processes_of m owns) pid unborn_process).space.windows k ≡ None
 past-windows m owns pid own k h read more =
     slice_get_past (slice_index_or (processes_of m owns) pid unborn_process).space.windows k (omega (arith, used-read m owns pid own h read))

@@ -1,4 +1,5 @@
--- The blocks of a node that go to another store, one process after the other, and the processes that are left.
+-- The blocks of a node that go to another store, one process after the other, and the processes
+-- that are left.
 use Rattle.std.proofs.Common.{◌≡◌, ℕ, zero, suc, ◌+◌, ◌<◌, ◌≤◌, ◌==◌, List, [], ◌∷◌, ◌++◌, length, map, drop, flat_map, replicate, slice_set, slice_index_or, None, refl, ap, sym, ◌∙◌, subst, arith, inl, inr}
 use Rattle.std.specs.List.{Contains}
 use Rattle.std.proofs.lemmas.Bool.{cases_Bool, eq-eqb, both_ways}
@@ -10,12 +11,12 @@ use Rattle.ce_model.specs.Limits.{process_count}
 use Rattle.ce_model.specs.Process.{Process, unborn_process}
 use Rattle.ce_model.specs.Node.{Node, process_at, with_process}
 use Rattle.ce_solo.proofs.Counting.{hit-self, count, count-cons, count-append, count-put_all}
-use Rattle.xm_block.specs.Stores.{BlockStore, ids_of, AreApart}
+use Rattle.xm_block.specs.Stores.{BlockStore, ids_of, AreBlocksApart}
 use Rattle.xm_owner.specs.Holdings.{Mapping, without_process}
-use Rattle.rk_process.specs.Seen.{Own, place_of, unborn_own}
-use Rattle.rk_node.specs.Tables.{used_count_of, AreWithin}
+use Rattle.rk_process.specs.OwnStates.{OwnState, place_of, unborn_state}
+use Rattle.rk_node.specs.Tables.{used_count_of, AreUsedWindows}
 use Rattle.rk_node.specs.Boxes.{scrubbed_node}
-use Rattle.rk_node.specs.Hearings.{AreApartFrom, ids_in}
+use Rattle.rk_node.specs.Hearings.{AreNewToStore, process_block_ids}
 use Rattle.rk_node.proofs.Names.{pairs_apart, not_contained}
 
 pub put_all-append : (first next store : List BlockId) → with_ids (first ++ next) store ≡ with_ids next (with_ids first store)
@@ -23,19 +24,19 @@ put_all-append [] next store = refl
 put_all-append (id ∷ first) next store = put_all-append first next (with_id id store)
 
 -- names that are apart from a store, as the code's calls ask for it
-pub apart-blocks : (blocks : List Block) (ids : List BlockId) (store : BlockStore) → ids ≡ ids_of blocks → AreApartFrom ids store → AreApart blocks store.blocks
+pub apart-blocks : (blocks : List Block) (ids : List BlockId) (store : BlockStore) → ids ≡ ids_of blocks → AreNewToStore ids store → AreBlocksApart blocks store.blocks
 apart-blocks blocks ids store same apart =
     pairs_apart (ids_of blocks ++ ids_of store.blocks) (subst (λ ids. (id : BlockId) → count id (ids ++ ids_of store.blocks) ≤ 1) same apart.apart)
 
 -- the first of names that are apart from a store
-pub apart-first : (first next : List BlockId) (store : BlockStore) → AreApartFrom (first ++ next) store → AreApartFrom first store
+pub apart-first : (first next : List BlockId) (store : BlockStore) → AreNewToStore (first ++ next) store → AreNewToStore first store
 apart-first first next store apart = record {
   apart = λ id. omega (arith, apart.apart id, count-append id (first ++ next) (ids_of store.blocks), count-append id first next, count-append id first (ids_of store.blocks));
 }
 
 -- and the others, once the first are in the store
 pub apart-next : (first next : List BlockId) (store store' : BlockStore) → ids_of store'.blocks ≡ with_ids first (ids_of store.blocks)
-    → AreApartFrom (first ++ next) store → AreApartFrom next store'
+    → AreNewToStore (first ++ next) store → AreNewToStore next store'
 apart-next first next store store' moved apart = record {
   apart = λ id. omega (
     arith,
@@ -92,18 +93,18 @@ ids-unborn zero = refl
 ids-unborn (suc n) = ids-unborn n
 
 -- the windows of all other processes are still ones that were used
-pub within-reset : (owns : List Own) (pid : ℕ) (own : Own) (m : List Mapping) → AreWithin owns (map place_of m)
-    → AreWithin (slice_set owns pid own) (map place_of (without_process pid m))
+pub within-reset : (owns : List OwnState) (pid : ℕ) (own : OwnState) (m : List Mapping) → AreUsedWindows owns (map place_of m)
+    → AreUsedWindows (slice_set owns pid own) (map place_of (without_process pid m))
 within-reset owns pid own [] within = tt
 within-reset owns pid own (x ∷ xs) within = elim (cases_Bool (x.pid == pid)) [
   | inl t ↦ rw t (within-reset owns pid own xs within.1)
   | inr f ↦ (let same : used_count_of (slice_set owns pid own) x.pid ≡ used_count_of owns x.pid =
-      ap (λ (o : Own). o.used_count) (get_or-set_other owns pid x.pid own unborn_own (λ e. both_ways _ f (eq-eqb x.pid pid e))) in
+      ap (λ (o : OwnState). o.used_count) (get_or-set_other owns pid x.pid own unborn_state (λ e. both_ways _ f (eq-eqb x.pid pid e))) in
       rw f (omega (arith, within.0, same), within-reset owns pid own xs within.1))
 ]
 
 -- a name that is apart from a store isn't in it
-pub not_stored : (id : BlockId) (ids : List BlockId) (store : BlockStore) → AreApartFrom (id ∷ ids) store → ¬ (Contains (ids_of store.blocks) id)
+pub not_stored : (id : BlockId) (ids : List BlockId) (store : BlockStore) → AreNewToStore (id ∷ ids) store → ¬ (Contains (ids_of store.blocks) id)
 not_stored id ids store apart =
     not_contained id (ids_of store.blocks)
     (omega (arith, apart.apart id, count-append id (id ∷ ids) (ids_of store.blocks), count-cons id id ids, hit-self id))
@@ -112,11 +113,11 @@ not_stored id ids store apart =
 
 -- the blocks that are left are those of the next process, and those behind it
 pub ids-split : (n now : Node) (k : ℕ) → now ≡ record n { processes = reset_first k n.processes; store = [] } → k < length n.processes
-    → ids_from k n.processes ≡ ids_in k now ++ ids_from (k + 1) n.processes
+    → ids_from k n.processes ≡ process_block_ids k now ++ ids_from (k + 1) n.processes
 ids-split n now k same h =
     let next : suc k ≡ k + 1 = omega arith in
     let own : slice_index_or n.processes k unborn_process ≡ process_at now k = sym (ap (λ (m : Node). process_at m k) same ∙ reset-read k n.processes) in
-    ids-next k n.processes h ∙ ap (λ (p : Process). mapped_ids p.space ++ ids_from (suc k) n.processes) own ∙ ap (λ j. ids_in k now ++ ids_from j n.processes) next
+    ids-next k n.processes h ∙ ap (λ (p : Process). mapped_ids p.space ++ ids_from (suc k) n.processes) own ∙ ap (λ j. process_block_ids k now ++ ids_from j n.processes) next
 
 pub node-next : (n now after : Node) (k : ℕ) → now ≡ record n { processes = reset_first k n.processes; store = [] } → after ≡ with_process now k unborn_process → k < length n.processes
     → after ≡ record n { processes = reset_first (k + 1) n.processes; store = [] }

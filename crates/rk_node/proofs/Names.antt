@@ -16,8 +16,8 @@ use Rattle.ce_model.specs.Process.{Process, unborn_process}
 use Rattle.xm_owner.specs.Holdings.{process_blocks}
 use Rattle.rk_node.specs.declared.node.Node.{Node}
 use Rattle.rk_node.specs.Standing.{node_model}
-use Rattle.rk_node.specs.Ready.{IsOnce}
-use Rattle.rk_node.specs.Hearings.{ids_in}
+use Rattle.rk_node.specs.Ready.{HasBlocksOnce}
+use Rattle.rk_node.specs.Hearings.{process_block_ids}
 use Rattle.rk_node.proofs.Windows.{ids-held}
 use Rattle.rk_node.proofs.Processes.{process_of-at}
 
@@ -64,20 +64,20 @@ length-with_blocks [] stored = omega arith
 length-with_blocks (block ∷ blocks) stored = omega (arith, length-with_blocks blocks (with_block block stored), length-with_block block stored)
 
 -- the names of a process's blocks
-pub ids_of-process : (node : Node) (pid : ℕ) → pid < process_count → ids_in pid (node_model node) ≡ ids_of (process_blocks pid node.held_blocks.mappings)
+pub ids_of-process : (node : Node) (pid : ℕ) → pid < process_count → process_block_ids pid (node_model node) ≡ ids_of (process_blocks pid node.held_blocks.mappings)
 ids_of-process node pid below =
     ap (λ (p : Process). mapped_ids p.space) (process_of-at node.held_blocks.mappings node.processes.items pid (omega (arith, node.stocked.every_id, below)))
     ∙ ids-held node.processes.items pid node.held_blocks.mappings node.stocked.rising node.stocked.windows
 
 -- the names in a store that got them all
 pub ids_of-drained : (node : Node) (pid : ℕ) (before after : List Block) → pid < process_count → after ≡ with_blocks (process_blocks pid node.held_blocks.mappings) before
-    → ids_of after ≡ with_ids (ids_in pid (node_model node)) (ids_of before)
+    → ids_of after ≡ with_ids (process_block_ids pid (node_model node)) (ids_of before)
 ids_of-drained node pid before after below moved =
     ap ids_of moved ∙ ids_of-with_blocks (process_blocks pid node.held_blocks.mappings) before
     ∙ ap (λ ids. with_ids ids (ids_of before)) (sym (ids_of-process node pid below))
 
 -- the names of a process's blocks and those of the store stand once each
-pub once-process : (node : model.Node) (pid : ℕ) (ids : List BlockId) → IsOnce node → pid < length node.processes → mapped_ids (model.process_at node pid).space ≡ ids
+pub once-process : (node : model.Node) (pid : ℕ) (ids : List BlockId) → HasBlocksOnce node → pid < length node.processes → mapped_ids (model.process_at node pid).space ≡ ids
     → (id : BlockId) → count id (ids ++ node.store) ≤ 1
 once-process node pid ids once h same id =
     omega (

@@ -5,11 +5,11 @@ use Rattle.ce_model.specs.Limits.{process_count, home_blocks}
 use Rattle.ce_model.specs.Blocks.{with_id, blocks_of_home}
 use Rattle.ce_model.specs.Node.{Node, blocks_of}
 use Rattle.ce_model.specs.Kernel.{with_store}
-use Rattle.rk_node.specs.Boxes.{fresh_at, scrubbed_node}
+use Rattle.rk_node.specs.Boxes.{fresh_node_at, scrubbed_node}
 use Rattle.xm_block.proofs.HomeBlocks.{length-blocks_of_home}
 use Rattle.rk_node.proofs.Moved.{ids-unborn}
 
-pub blocks-fresh : (node : Node) → node ≡ fresh_at node.home node.number node.dim node.images → length (blocks_of node) ≡ home_blocks
+pub blocks-fresh : (node : Node) → node ≡ fresh_node_at node.home node.number node.dim node.images → length (blocks_of node) ≡ home_blocks
 blocks-fresh node fresh =
     ap (λ (n : Node). length (blocks_of n)) fresh
     ∙ ap (λ ids. length (blocks_of_home node.home ++ ids)) (ids-unborn process_count)

@@ -12,10 +12,10 @@ use Rattle.ce_model.specs.declared.topology.BlockId.{BlockId}
 use Rattle.ce_model.specs.Limits.{block_room, greatest_targets, turn_calls}
 use Rattle.ce_model.specs.Blocks.{Block, with_id}
 use Rattle.ce_model.specs.Space.{Space, process_access, window_start, has_unused_window, mapped_space, block_named, places_at}
-use Rattle.ce_model.specs.Process.{Process, argument, call_number, with_answer, moved_process, unborn_process, TurnEnd, at_call, at_stop, end_after, turn_end}
-use Rattle.ce_model.specs.Node.{Turn, Node, is_place, process_at, with_process, with_stopped, Call, send_call, spawn_call, kill_call, note_call}
+use Rattle.ce_model.specs.Process.{Process, argument, call_number, with_answer, moved_process, unborn_process, TurnEnd, call_end, stop_end, end_after, turn_end}
+use Rattle.ce_model.specs.Node.{Turn, Node, is_place, process_at, with_process, with_stopped_process, Call, send_call, spawn_call, kill_call, note_call}
 use Rattle.ce_model.specs.Kernel.{CallOutcome, continuation, departure, turn_conclusion, return_outcome, stop_outcome, leave_outcome, read_outcome, wait_outcome, with_space, process_left_behind, with_store, map_outcome, xmalloc, free_outcome, xfree, xlength, is_target, place_named, send_outcome, xsend, copies_outcome, xmsend_block, xmsend, xrecv, xrecvb, spawn, ckill, KernelCall, kernel_calls, kernel_call, call_outcome, kernel}
-use Rattle.ce_model.specs.Saying.{Saying, idle_saying, after_call, after_instruction, instruction, turn_saying}
+use Rattle.ce_model.specs.Saying.{Saying, idle_saying, saying_after_call, saying_after_instruction, instruction, turn_saying}
 use Rattle.ce_model.specs.Sound.{IsSoundTurn}
 use Rattle.ce_solo.proofs.Windows.{IsSameHeld, same_held}
 use Rattle.ce_solo.proofs.Instructions.{IsLed, exec-led}
@@ -40,8 +40,8 @@ module _ (q : Process) where
   leave_outcome-apart : (node : Node) (turn : Turn) (p : Process) (call : Call) → leave_outcome (other node turn.pid) turn p call ≡ leave_outcome node turn p call
   leave_outcome-apart node turn p call = ap (λ (n : Node). departure (record n { turn = Some turn }) call) (with_process-apart node turn.pid p)
 
-  pub with_stopped-apart : (node : Node) (pid : ℕ) (p : Process) (cause : Stop) → with_stopped (other node pid) pid p cause ≡ with_stopped node pid p cause
-  with_stopped-apart node pid p cause = ap (λ ps. record (with_stopped node pid p cause) { processes = ps }) (set-twice node.processes pid q _)
+  pub with_stopped-apart : (node : Node) (pid : ℕ) (p : Process) (cause : Stop) → with_stopped_process (other node pid) pid p cause ≡ with_stopped_process node pid p cause
+  with_stopped-apart node pid p cause = ap (λ ps. record (with_stopped_process node pid p cause) { processes = ps }) (set-twice node.processes pid q _)
 
   stops-apart : (node : Node) (turn : Turn) (p : Process) (cause : Stop) → stop_outcome (other node turn.pid) turn p cause ≡ stop_outcome node turn p cause
   stops-apart node turn p cause = ap turn_conclusion (with_stopped-apart node turn.pid p cause)
@@ -175,28 +175,28 @@ module _ (q : Process) where
 -- ---- whole runs
 
 -- what the node says whose process came to this
-abbrev pub came_to : Node → Turn → TurnEnd → Saying
-came_to node turn (at_call left p) = after_call (turn_saying left) (kernel node (record turn { instructions_left = left }) p)
-came_to node turn (at_stop left p cause) = idle_saying (with_stopped node turn.pid p cause)
+abbrev pub saying_of_turn_end : Node → Turn → TurnEnd → Saying
+saying_of_turn_end node turn (call_end left p) = saying_after_call (turn_saying left) (kernel node (record turn { instructions_left = left }) p)
+saying_of_turn_end node turn (stop_end left p cause) = idle_saying (with_stopped_process node turn.pid p cause)
 
-came_to-apart : (q : Process) (node : Node) (turn : Turn) (r : TurnEnd) → came_to (with_process node turn.pid q) turn r ≡ came_to node turn r
-came_to-apart q node turn (at_call left p) = ap (after_call (turn_saying left)) (kernel-apart q node (record turn { instructions_left = left }) p)
-came_to-apart q node turn (at_stop left p cause) = ap idle_saying (with_stopped-apart q node turn.pid p cause)
+came_to-apart : (q : Process) (node : Node) (turn : Turn) (r : TurnEnd) → saying_of_turn_end (with_process node turn.pid q) turn r ≡ saying_of_turn_end node turn r
+came_to-apart q node turn (call_end left p) = ap (saying_after_call (turn_saying left)) (kernel-apart q node (record turn { instructions_left = left }) p)
+came_to-apart q node turn (stop_end left p cause) = ap idle_saying (with_stopped-apart q node turn.pid p cause)
 
 runs-led : (n : ℕ) (node : Node) (turn : Turn) (outcome : Outcome Space) → turn.pid < length node.processes
-    → ((node' : Node) → turn.pid < length node'.processes → turn_saying n node' turn ≡ came_to node' turn (turn_end n (process_at node' turn.pid)))
-    → after_instruction (turn_saying n) n node turn (process_at node turn.pid) outcome ≡ came_to node turn (end_after (turn_end n) n (process_at node turn.pid) outcome)
-runs-led n node turn (next_state regs pc space) h each =
-    let p = moved_process (process_at node turn.pid) regs pc space in
+    → ((node' : Node) → turn.pid < length node'.processes → turn_saying n node' turn ≡ saying_of_turn_end node' turn (turn_end n (process_at node' turn.pid)))
+    → saying_after_instruction (turn_saying n) n node turn (process_at node turn.pid) outcome ≡ saying_of_turn_end node turn (end_after (turn_end n) n (process_at node turn.pid) outcome)
+runs-led n node turn (next_state registers pc space) h each =
+    let p = moved_process (process_at node turn.pid) registers pc space in
     let node' = with_process node turn.pid p in
     each node' (omega (arith, length-set node.processes turn.pid p))
-    ∙ ap (λ q. came_to node' turn (turn_end n q)) (get_or-set_same node.processes turn.pid p unborn_process h)
+    ∙ ap (λ q. saying_of_turn_end node' turn (turn_end n q)) (get_or-set_same node.processes turn.pid p unborn_process h)
     ∙ came_to-apart p node turn (turn_end n p)
-runs-led n node turn (call_state regs pc space) h each = refl
+runs-led n node turn (call_state registers pc space) h each = refl
 runs-led n node turn (stop_state cause) h each = refl
 
 -- a turn is a run to the next kernel call, and that call
-pub runs-reached : (n : ℕ) (node : Node) (turn : Turn) → turn.pid < length node.processes → turn_saying n node turn ≡ came_to node turn (turn_end n (process_at node turn.pid))
+pub runs-reached : (n : ℕ) (node : Node) (turn : Turn) → turn.pid < length node.processes → turn_saying n node turn ≡ saying_of_turn_end node turn (turn_end n (process_at node turn.pid))
 unfolding turn_saying turn_end
 runs-reached zero node turn h = refl
 runs-reached (suc n) node turn h = runs-led n node turn (instruction (process_at node turn.pid)) h (λ node' h'. runs-reached n node' turn h')
@@ -206,38 +206,38 @@ runs-reached (suc n) node turn h = runs-led n node turn (instruction (process_at
 -- a process that has run on holds the same blocks
 pub record IsKept (before after : Process) : Type 0 where
   pub held : IsSameHeld before.space after.space
-  pub regs : length after.regs ≡ length before.regs
+  pub registers : length after.registers ≡ length before.registers
   pub status : after.status ≡ before.status
 
 abbrev pub IsKeptBy : ℕ → Process → TurnEnd → Type 0
-IsKeptBy n p (at_call left p') = IsKept p p' × (left < n)
-IsKeptBy n p (at_stop left p' cause) = IsKept p p' × (left ≤ n)
+IsKeptBy n p (call_end left p') = IsKept p p' × (left < n)
+IsKeptBy n p (stop_end left p' cause) = IsKept p p' × (left ≤ n)
 
 kept_same : (p : Process) → IsKept p p
-kept_same p = record { held = same_held p.space; regs = refl; status = refl }
+kept_same p = record { held = same_held p.space; registers = refl; status = refl }
 
 kept_then : (a b d : Process) → IsKept a b → IsKept b d → IsKept a d
 kept_then a b d first next = record {
   held = record { ids = next.held.ids ∙ first.held.ids; windows = next.held.windows ∙ first.held.windows };
-  regs = next.regs ∙ first.regs;
+  registers = next.registers ∙ first.registers;
   status = next.status ∙ first.status;
 }
 
 kept_on : (n : ℕ) (p q : Process) (r : TurnEnd) → IsKept p q → IsKeptBy n q r → IsKeptBy (suc n) p r
-kept_on n p q (at_call left p') first next = (kept_then p q p' first next.0, let less = next.1 in omega (arith, less))
-kept_on n p q (at_stop left p' cause) first next = (kept_then p q p' first next.0, let less = next.1 in omega (arith, less))
+kept_on n p q (call_end left p') first next = (kept_then p q p' first next.0, let less = next.1 in omega (arith, less))
+kept_on n p q (stop_end left p' cause) first next = (kept_then p q p' first next.0, let less = next.1 in omega (arith, less))
 
-led-kept : (n : ℕ) (p : Process) (outcome : Outcome Space) → IsLed p.regs p.space outcome → ((q : Process) → IsKeptBy n q (turn_end n q))
+led-kept : (n : ℕ) (p : Process) (outcome : Outcome Space) → IsLed p.registers p.space outcome → ((q : Process) → IsKeptBy n q (turn_end n q))
     → IsKeptBy (suc n) p (end_after (turn_end n) n p outcome)
-led-kept n p (next_state regs pc space) led each =
-    kept_on n p (moved_process p regs pc space) (turn_end n (moved_process p regs pc space)) (record { held = led.1; regs = led.0; status = refl }) (each (moved_process p regs pc space))
-led-kept n p (call_state regs pc space) led each = (record { held = led.1; regs = led.0; status = refl }, omega arith)
+led-kept n p (next_state registers pc space) led each =
+    kept_on n p (moved_process p registers pc space) (turn_end n (moved_process p registers pc space)) (record { held = led.1; registers = led.0; status = refl }) (each (moved_process p registers pc space))
+led-kept n p (call_state registers pc space) led each = (record { held = led.1; registers = led.0; status = refl }, omega arith)
 led-kept n p (stop_state cause) led each = (kept_same p, omega arith)
 
 pub reached-kept : (n : ℕ) (p : Process) → IsKeptBy n p (turn_end n p)
 unfolding turn_end
 reached-kept zero p = (kept_same p, omega arith)
-reached-kept (suc n) p = led-kept n p (exec process_access p.regs p.pc p.space) (exec-led p.regs p.pc p.space) (λ q. reached-kept n q)
+reached-kept (suc n) p = led-kept n p (exec process_access p.registers p.pc p.space) (exec-led p.registers p.pc p.space) (λ q. reached-kept n q)
 
 -- the node is in its turn still
 pub well-after : (node : Node) (turn : Turn) (left : ℕ) (p : Process) → IsWell (Some turn) node → IsSoundTurn turn → left ≤ turn.instructions_left → IsKept (process_at node turn.pid) p
@@ -247,7 +247,7 @@ well-after node turn left p well sound less kept =
     let c : IsInItsTurn node turn' p = record {
       well = well-turn node turn left turn.calls well;
       sound = record { pid = sound.pid; instructions_left = omega (arith, sound.instructions_left, less); calls = sound.calls };
-      registers = kept.regs ∙ (well.processes turn.pid sound.pid).registers;
+      registers = kept.registers ∙ (well.processes turn.pid sound.pid).registers;
       held = kept.held;
       status = kept.status;
     } in

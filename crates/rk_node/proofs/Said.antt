@@ -9,14 +9,14 @@ use Rattle.ce_solo.proofs.Nodes.{IsWell}
 use Rattle.ce_solo.proofs.Words.{IsCallOf, call_ids}
 use Rattle.ce_solo.proofs.Says.{says-said}
 use Rattle.rk_node.specs.declared.node.Node.{Node}
-use Rattle.rk_node.specs.declared.out.Out.{Out}
-use Rattle.rk_node.specs.declared.out.Out.TheVariants.{Nothing}
+use Rattle.rk_node.specs.declared.awaited_call.AwaitedCall.{AwaitedCall}
+use Rattle.rk_node.specs.declared.awaited_call.AwaitedCall.TheVariants.{Nothing}
 use Rattle.rk_node.specs.Standing.{node_model}
-use Rattle.rk_node.specs.Wording.{call_out, HasBatch}
+use Rattle.rk_node.specs.Wording.{awaited_call_of, HasBatch}
 use Rattle.rk_node.specs.Boxes.{Box}
 use Rattle.rk_node.specs.Answering.{IsAwaitingAnswer}
 use Rattle.rk_node.specs.Withdrawal.{HasTakenOut}
-use Rattle.rk_node.specs.Whole.{IsWhole}
+use Rattle.rk_node.specs.Whole.{IsWholeBox}
 use Rattle.rk_node.proofs.Limits.{sound_if}
 
 -- what a node is that was well and said this call
@@ -41,13 +41,13 @@ said-after node after call well sound same is =
       );
     }
 
-pub said-whole : (node : Node) (out : Out) (after : Node) (call : Call) → IsWhole node out → call ≡ (says (node_model node)).call
+pub said-whole : (node : Node) (out : AwaitedCall) (after : Node) (call : Call) → IsWholeBox node out → call ≡ (says (node_model node)).call
     → node_model after ≡ (says (node_model node)).node → IsAfter (node_model node) (node_model after) call
 said-whole node out after call whole same is = said-after (node_model node) (node_model after) call whole.well (sound_if node.turn) same is
 
-pub has_said : (box : Box) (call : Call) → box.out ≡ call_out call → IsCallOf box.node call → IsAwaitingAnswer box call
+pub has_said : (box : Box) (call : Call) → box.awaited_call ≡ awaited_call_of call → IsCallOf box.node call → IsAwaitingAnswer box call
 has_said box (take_call asking dead poller) is of = (is, of.1, of.0)
 has_said box call is of = sym is
 
-pub has_batch : (node : Node) (out : Out) → IsWhole node out → out ≡ Nothing → node.batch ≡ Some []
+pub has_batch : (node : Node) (out : AwaitedCall) → IsWholeBox node out → out ≡ Nothing → node.batch ≡ Some []
 has_batch node out whole none = subst (λ o. HasBatch o node.batch) none whole.batch

@@ -14,7 +14,7 @@ use Rattle.ce_model.specs.Node.{Node, process_at, blocks_of}
 use Rattle.ce_model.specs.Sound.{is_polling, AreInOrder}
 use Rattle.ce_solo.proofs.Counting.{hit, hit-le, same_from_hit, count, count-nil, count-cons}
 use Rattle.ce_solo.proofs.Nodes.{polls, IsWellProcess, IsWell}
-use Rattle.rk_node.specs.Boxes.{fresh_at, scrubbed_node}
+use Rattle.rk_node.specs.Boxes.{fresh_node_at, scrubbed_node}
 use Rattle.xm_block.proofs.HomeBlocks.{name}
 use Rattle.rk_node.proofs.Moved.{ids-unborn}
 
@@ -58,7 +58,8 @@ rising-home home = rising-from home 0 home_blocks
 
 -- ---- nodes without a process that was started
 
--- no process of the node was started, its blocks are in its store, whose names rise, and nothing is under way
+-- no process of the node was started, its blocks are in its store, whose names rise, and nothing is
+-- under way
 pub record IsIdle (node : Node) : Type 0 where
   pub processes : node.processes ≡ replicate process_count unborn_process
   pub polling_ids : node.polling_ids ≡ []
@@ -95,7 +96,7 @@ idle-well node idle = record {
   once = λ id. omega (arith, ap (count id) (idle-blocks node idle), once-rising id node.store idle.store);
 }
 
-pub idle-fresh : (home r dim images : ℕ) → IsIdle (fresh_at home r dim images)
+pub idle-fresh : (home r dim images : ℕ) → IsIdle (fresh_node_at home r dim images)
 idle-fresh home r dim images = record { processes = refl; polling_ids = refl; store = rising-home home }
 
 pub idle-scrubbed : (node : Node) → IsIdle (scrubbed_node node)

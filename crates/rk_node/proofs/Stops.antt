@@ -5,7 +5,7 @@ use Rattle.rv_model.specs.declared.stop.Stop.{Stop}
 use Rattle.ce_model.specs.declared.process.Status.TheVariants.{Stopped}
 use Rattle.ce_model.specs.Space.{emptied_space}
 use Rattle.ce_model.specs.Process.{Process, unborn_process}
-use Rattle.ce_model.specs.Node.{Node, process_at, with_process, without_poller, with_stopped}
+use Rattle.ce_model.specs.Node.{Node, process_at, with_process, without_poller, with_stopped_process}
 use Rattle.ce_model.specs.Kernel.{with_space}
 use Rattle.rk_node.specs.Moves.{with_status, released_node}
 use Rattle.rk_node.proofs.Processes.{set-twice}
@@ -18,11 +18,11 @@ changed-twice ps pid p change h =
 
 pub stopped-steps : (node a b d : Node) (pid : ℕ) (cause : Stop) → pid < length node.processes → a ≡ released_node pid node
     → b ≡ with_process a pid (with_status (Stopped cause) (process_at a pid)) → d ≡ record b { polling_ids = without_poller pid b.polling_ids }
-    → record d { turn = None } ≡ with_stopped node pid (process_at node pid) cause
+    → record d { turn = None } ≡ with_stopped_process node pid (process_at node pid) cause
 stopped-steps node a b d pid cause h first next last =
     let p = process_at node pid in
     ap (λ (n : Node). record n { turn = None }) last
     ∙ ap (λ (n : Node). record n { polling_ids = without_poller pid n.polling_ids; turn = None }) next
     ∙ ap (λ (n : Node). record (with_process n pid (with_status (Stopped cause) (process_at n pid))) { polling_ids = without_poller pid n.polling_ids; turn = None }) first
-    ∙ ap (λ ps. record (with_stopped node pid p cause) { processes = ps })
+    ∙ ap (λ ps. record (with_stopped_process node pid p cause) { processes = ps })
     (changed-twice node.processes pid (with_space p (emptied_space p.space)) (with_status (Stopped cause)) h)

@@ -1,4 +1,5 @@
--- What the windows of a process hold, by the map of its node, and what each change of the map makes of them.
+-- What the windows of a process hold, by the map of its node, and what each change of the map makes
+-- of them.
 use Rattle.std.proofs.Common.{◌≡◌, ℕ, zero, suc, ◌+◌, ◌<◌, ◌≤◌, true, false, ◌==◌, List, [], ◌∷◌, ◌++◌, map, slice_set, Option, Some, None, add-zero, arith, refl, ap, ◌∙◌, sym, inl, inr}
 use Rattle.std.specs.List.{range_with_len, AllByRecursion}
 use Rattle.std.proofs.lemmas.Bool.{cases_Bool, eqb-true, and_parts}
@@ -7,10 +8,10 @@ use Rattle.std.proofs.lemmas.Option.{none-some}
 use Rattle.ce_model.specs.declared.topology.BlockId.{BlockId}
 use Rattle.ce_model.specs.Blocks.{Block}
 use Rattle.xm_block.specs.Stores.{ids_of}
-use Rattle.xm_owner.specs.Holdings.{Mapping, is_at, block_held_at, process_blocks, HasChangedOnly}
-use Rattle.rk_process.specs.Seen.{Own, windows_of, place_of}
+use Rattle.xm_owner.specs.Holdings.{Mapping, is_mapping_at, block_held_at, process_blocks, HasChangedOnly}
+use Rattle.rk_process.specs.OwnStates.{OwnState, windows_of, place_of}
 use Rattle.ce_solo.proofs.Windows.{ids_at}
-use Rattle.rk_node.specs.Tables.{used_count_of, AreWithin, is_place_before, AreRising}
+use Rattle.rk_node.specs.Tables.{used_count_of, AreUsedWindows, is_place_before, AreRisingPlaces}
 
 -- ---- a run of windows
 
@@ -82,14 +83,14 @@ windows-emptied before after pid used none = map-const (block_held_at before pid
 
 -- ---- windows that were used
 
-at-parts : (pid w : ℕ) (mapping : Mapping) → is_at pid w mapping ≡ true → (mapping.pid ≡ pid) × (mapping.window ≡ w)
+at-parts : (pid w : ℕ) (mapping : Mapping) → is_mapping_at pid w mapping ≡ true → (mapping.pid ≡ pid) × (mapping.window ≡ w)
 at-parts pid w mapping t =
     let parts = and_parts (mapping.pid == pid) (mapping.window == w) t in (eqb-true mapping.pid pid parts.0, eqb-true mapping.window w parts.1)
 
 -- a window that a process hasn't used holds nothing
-pub vacant-unused : (owns : List Own) (mappings : List Mapping) (pid w : ℕ) → AreWithin owns (map place_of mappings) → used_count_of owns pid ≤ w → block_held_at mappings pid w ≡ None
+pub vacant-unused : (owns : List OwnState) (mappings : List Mapping) (pid w : ℕ) → AreUsedWindows owns (map place_of mappings) → used_count_of owns pid ≤ w → block_held_at mappings pid w ≡ None
 vacant-unused owns [] pid w within h = refl
-vacant-unused owns (mapping ∷ mappings) pid w within h = elim (cases_Bool (is_at pid w mapping)) [
+vacant-unused owns (mapping ∷ mappings) pid w within h = elim (cases_Bool (is_mapping_at pid w mapping)) [
   | inl t ↦ (let parts = at-parts pid w mapping t in
       let used : used_count_of owns mapping.pid ≡ used_count_of owns pid = ap (used_count_of owns) parts.0 in
       absurd (omega (arith, within.0, parts.1)))
@@ -97,10 +98,10 @@ vacant-unused owns (mapping ∷ mappings) pid w within h = elim (cases_Bool (is_
 ]
 
 -- so a window that holds a block was used
-pub used-held : (owns : List Own) (mappings : List Mapping) (pid w : ℕ) (block : Block) → AreWithin owns (map place_of mappings) → block_held_at mappings pid w ≡ Some block
+pub used-held : (owns : List OwnState) (mappings : List Mapping) (pid w : ℕ) (block : Block) → AreUsedWindows owns (map place_of mappings) → block_held_at mappings pid w ≡ Some block
     → w < used_count_of owns pid
 used-held owns [] pid w block within held = absurd (none-some block held)
-used-held owns (mapping ∷ mappings) pid w block within held = elim (cases_Bool (is_at pid w mapping)) [
+used-held owns (mapping ∷ mappings) pid w block within held = elim (cases_Bool (is_mapping_at pid w mapping)) [
   | inl t ↦ (let parts = at-parts pid w mapping t in
       let used : used_count_of owns mapping.pid ≡ used_count_of owns pid = ap (used_count_of owns) parts.0 in
       omega (arith, within.0, parts.1))
@@ -118,7 +119,7 @@ ids_between pid a n mappings = ids_at (map (block_held_at mappings pid) (range_w
 
 -- the claim for a run of windows
 abbrev HasSameIds : ℕ → ℕ → Type 0
-HasSameIds pid n = (a : ℕ) (mappings : List Mapping) → AreRising (map place_of mappings) → AreBetween pid a n mappings → ids_between pid a n mappings ≡ ids_of (process_blocks pid mappings)
+HasSameIds pid n = (a : ℕ) (mappings : List Mapping) → AreRisingPlaces (map place_of mappings) → AreBetween pid a n mappings → ids_between pid a n mappings ≡ ids_of (process_blocks pid mappings)
 
 behind : (pid a n : ℕ) (mapping : Mapping) (mappings : List Mapping) → mapping.pid ≡ pid → AllByRecursion (λ other. is_place_before (place_of mapping) other ≡ true) (map place_of mappings)
     → AreBetween pid a (suc n) mappings → a ≤ mapping.window → AreBetween pid (a + 1) n mappings
@@ -131,7 +132,7 @@ behind pid a n mapping (other ∷ mappings) own before within low = (
 
 vacant-below : (pid a n w : ℕ) (mappings : List Mapping) → AreBetween pid a n mappings → w < a → block_held_at mappings pid w ≡ None
 vacant-below pid a n w [] within low = refl
-vacant-below pid a n w (mapping ∷ mappings) within low = elim (cases_Bool (is_at pid w mapping)) [
+vacant-below pid a n w (mapping ∷ mappings) within low = elim (cases_Bool (is_mapping_at pid w mapping)) [
   | inl t ↦ (let parts = at-parts pid w mapping t in let at = within.0 parts.0 in absurd (omega (arith, parts.1)))
   | inr f ↦ rw f (vacant-below pid a n w mappings within.1 low)
 ]
@@ -147,7 +148,7 @@ none_between pid a (mapping ∷ mappings) within = elim (cases_Bool (mapping.pid
 other-front : (pid a n : ℕ) (mapping : Mapping) (mappings : List Mapping) → (mapping.pid == pid) ≡ false → ids_between pid a n (mapping ∷ mappings) ≡ ids_between pid a n mappings
 other-front pid a n mapping mappings f =
     ap ids_at (map-same (block_held_at mappings pid) (block_held_at (mapping ∷ mappings) pid) a n (λ w low high.
-    let apart : is_at pid w mapping ≡ false = grind (arith, nat_tests) in rw apart refl))
+    let apart : is_mapping_at pid w mapping ≡ false = grind (arith, nat_tests) in rw apart refl))
 
 more_ids : (pid n : ℕ) → HasSameIds pid n → HasSameIds pid (suc n)
 more_ids pid n fewer a [] rise within = fewer (a + 1) [] tt tt
@@ -160,7 +161,7 @@ more_ids pid n fewer a (mapping ∷ mappings) rise within = elim (cases_Bool (ma
         | inl here ↦ (let first : block_held_at (mapping ∷ mappings) pid a ≡ Some mapping.block = rw (t, here) refl in
             let others : map (block_held_at (mapping ∷ mappings) pid) (range_with_len (a + 1) n) ≡ map (block_held_at mappings pid) (range_with_len (a + 1) n) =
             map-same (block_held_at mappings pid) (block_held_at (mapping ∷ mappings) pid) (a + 1) n (λ w low high.
-            let apart : is_at pid w mapping ≡ false = grind (arith, nat_tests) in rw apart refl) in
+            let apart : is_mapping_at pid w mapping ≡ false = grind (arith, nat_tests) in rw apart refl) in
             ap (λ x. ids_at (x ∷ map (block_held_at (mapping ∷ mappings) pid) (range_with_len (a + 1) n))) first
             ∙ ap (λ xs. mapping.block.id ∷ ids_at xs) others ∙ ap (λ ids. mapping.block.id ∷ ids) (fewer (a + 1) mappings rise.1 rest) ∙ rw t refl)
         | inr later ↦ (let up : a < mapping.window = grind (arith, nat_tests, at) in
@@ -174,7 +175,7 @@ same_ids : (pid n : ℕ) → HasSameIds pid n
 same_ids pid zero = λ a mappings rise within. sym (ap ids_of (none_between pid a mappings within))
 same_ids pid (suc n) = more_ids pid n (same_ids pid n)
 
-between-used : (owns : List Own) (pid : ℕ) (mappings : List Mapping) → AreWithin owns (map place_of mappings) → AreBetween pid 0 (used_count_of owns pid) mappings
+between-used : (owns : List OwnState) (pid : ℕ) (mappings : List Mapping) → AreUsedWindows owns (map place_of mappings) → AreBetween pid 0 (used_count_of owns pid) mappings
 between-used owns pid [] within = tt
 between-used owns pid (mapping ∷ mappings) within = (
   λ same. let used : used_count_of owns mapping.pid ≡ used_count_of owns pid = ap (used_count_of owns) same in (omega arith, omega (arith, within.0)),
@@ -182,7 +183,7 @@ between-used owns pid (mapping ∷ mappings) within = (
 )
 
 -- the names of a process's blocks by its windows, and by the map
-pub ids-held : (owns : List Own) (pid : ℕ) (mappings : List Mapping) → AreRising (map place_of mappings) → AreWithin owns (map place_of mappings)
+pub ids-held : (owns : List OwnState) (pid : ℕ) (mappings : List Mapping) → AreRisingPlaces (map place_of mappings) → AreUsedWindows owns (map place_of mappings)
     → ids_at (windows_of mappings pid (used_count_of owns pid)) ≡ ids_of (process_blocks pid mappings)
 unfolding windows_of
 ids-held owns pid mappings rising within =

@@ -4,28 +4,37 @@ use Rattle.ce_model.specs.Limits.{process_count, greatest_blocks}
 use Rattle.ce_model.specs.Blocks.{blocks_of_home}
 use Rattle.ce_model.specs.Process.{unborn_process}
 use Rattle.ce_model.specs.Node.{Node, opening_node, blocks_of}
-use Rattle.rk_node.specs.declared.out.Out.{Out}
-use Rattle.rk_node.specs.declared.out.Out.TheVariants.{Nothing}
+use Rattle.rk_node.specs.declared.awaited_call.AwaitedCall.{AwaitedCall}
+use Rattle.rk_node.specs.declared.awaited_call.AwaitedCall.TheVariants.{Nothing}
 
--- the node that it stands for, for how many blocks it has room, and which of the node's calls is out
+-- the node that it stands for, for how many blocks it has room, and which of the node's calls is
+-- out
 pub record Box : Type 0 where
   pub node : Node
   pub room : ℕ
-  pub out : Out
+  pub awaited_call : AwaitedCall
 
 -- the fresh node of this number, whose blocks have another home than their number
-abbrev pub fresh_at : ℕ → ℕ → ℕ → ℕ → Node
-fresh_at home r dim images = record (opening_node r dim images) { home = home; store = blocks_of_home home }
+abbrev pub fresh_node_at : ℕ → ℕ → ℕ → ℕ → Node
+fresh_node_at home r dim images =
+    record (opening_node r dim images) { home = home; store = blocks_of_home home }
 
--- no process of the box was started, its own blocks are in its store, nothing is under way, and it has room for all blocks of the greatest cube
-pub record IsClean (box : Box) : Type 0 where
-  pub node : box.node ≡ fresh_at box.node.home box.node.number box.node.dim box.node.images
-  pub out : box.out ≡ Nothing
+-- no process of the box was started, its own blocks are in its store, nothing is under way, and it
+-- has room for all blocks of the greatest cube
+pub record IsCleanBox (box : Box) : Type 0 where
+  pub node : box.node ≡ fresh_node_at box.node.home box.node.number box.node.dim box.node.images
+  pub awaited_call : box.awaited_call ≡ Nothing
   pub room : greatest_blocks ≤ box.room
 
--- the node of a box that is emptied: no block is there, no process was started, none polls, and there is no turn
+-- the node of a box that is emptied: no block is there, no process was started, none polls, and
+-- there is no turn
 abbrev pub scrubbed_node : Node → Node
-scrubbed_node node = record node { processes = replicate process_count unborn_process; store = []; polling_ids = []; turn = None }
+scrubbed_node node = record node {
+  processes = replicate process_count unborn_process;
+  store = [];
+  polling_ids = [];
+  turn = None;
+}
 
 -- the box has room for a block more
 abbrev pub HasRoomForBlock : Box → Type 0

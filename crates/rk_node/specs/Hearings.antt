@@ -16,13 +16,15 @@ use Rattle.rk_node.specs.declared.node.Node.{Node}
 use Rattle.rk_node.specs.Ready.{HasRoom}
 
 -- what the node can be asked to do
-abbrev pub IsWorkOf : List ImageParts → model.Node → Hearing → Type 0
-IsWorkOf images node (Start pid image) = (pid < process_count) × ((model.process_at node pid).status ≡ Unborn) × (image < length images)
-IsWorkOf images node (Mail parcel) =
-    (node.turn ≡ None) × (parcel.to.pid < process_count) × (count parcel.block.id (model.blocks_of node) ≡ 0)
-IsWorkOf images node (Kill pid) = pid < process_count
-IsWorkOf images node (Poll pid) = pid < process_count
-IsWorkOf images node other = Unit {0}
+abbrev pub IsNodeWork : List ImageParts → model.Node → Hearing → Type 0
+IsNodeWork images node (Start pid image) =
+    (pid < process_count) × ((model.process_at node pid).status ≡ Unborn) × (image < length images)
+IsNodeWork images node (Mail parcel) =
+    (node.turn ≡ None) × (parcel.to.pid < process_count)
+    × (count parcel.block.id (model.blocks_of node) ≡ 0)
+IsNodeWork images node (Kill pid) = pid < process_count
+IsNodeWork images node (Poll pid) = pid < process_count
+IsNodeWork images node other = Unit {0}
 
 -- there is room for a parcel's block
 abbrev pub HasRoomToHear : Hearing → Node → Type 0
@@ -30,14 +32,15 @@ HasRoomToHear (Mail parcel) node = HasRoom node
 HasRoomToHear other node = Unit {0}
 
 -- the spare batch comes back with the answer to a message
-abbrev pub batch_after : Hearing → Option (List (Place × Block)) → Option (List (Place × Block))
-batch_after (Posted batch) before = Some batch
-batch_after other before = before
+abbrev pub batch_after_hearing : Hearing → Option (List (Place × Block))
+    → Option (List (Place × Block))
+batch_after_hearing (Posted batch) before = Some batch
+batch_after_hearing other before = before
 
 -- the names of the blocks of a process of the node
-abbrev pub ids_in : ℕ → model.Node → List BlockId
-ids_in pid node = mapped_ids (model.process_at node pid).space
+abbrev pub process_block_ids : ℕ → model.Node → List BlockId
+process_block_ids pid node = mapped_ids (model.process_at node pid).space
 
 -- no two of these names and of those in a store are the same
-pub record AreApartFrom (ids : List BlockId) (store : BlockStore) : Type 0 where
+pub record AreNewToStore (ids : List BlockId) (store : BlockStore) : Type 0 where
   pub apart : (id : BlockId) → count id (ids ++ ids_of store.blocks) ≤ 1

@@ -8,7 +8,7 @@ use Rattle.rk_node.specs.declared.node.Node.{Node}
 use Rattle.rk_node.specs.Standing.{node_model}
 
 -- no block is at two places of the node
-pub record IsOnce (node : model.Node) : Type 0 where
+pub record HasBlocksOnce (node : model.Node) : Type 0 where
   pub once : (id : BlockId) → count id (model.blocks_of node) ≤ 1
 
 -- a process of the node is in this turn, and the spare batch is here

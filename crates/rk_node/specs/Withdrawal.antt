@@ -5,7 +5,8 @@ use Rattle.ce_model.specs.Node.{Node, Call, blocks_of}
 use Rattle.ce_solo.proofs.Counting.{count}
 use Rattle.ce_solo.proofs.Words.{call_ids}
 
--- each block that the node held is in it still or goes with the call, and no other does: what the call takes out, which is
--- nothing but for a message, was the node's
+-- each block that the node held is in it still or goes with the call, and no other does: what the
+-- call takes out, which is nothing but for a message, was the node's
 abbrev pub HasTakenOut : Node → Node → Call → Type 0
-HasTakenOut before after call = (id : BlockId) → count id (blocks_of after) + count id (call_ids call) ≡ count id (blocks_of before)
+HasTakenOut before after call = (id : BlockId) → count id (blocks_of after)
+    + count id (call_ids call) ≡ count id (blocks_of before)

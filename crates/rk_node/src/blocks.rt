@@ -2,25 +2,26 @@ ghost use Rattle.std.specs.Prelude.{◌≡◌, ◌<◌, ◌≤◌, ◌||◌, not
 ghost use Rattle.ce_model.specs.Limits.{window_count, block_room};
 ghost use Rattle.ce_model.specs.Space.{window_start, window_of, is_window_start, has_unused_window, block_at_window, block_named};
 ghost use Rattle.ce_model.specs.Node.{process_at, with_process};
-ghost use Rattle.ce_model.specs.Kernel.{process_left_behind, return_outcome, stop_outcome, free_outcome, map_outcome, xmalloc};
+ghost use Rattle.ce_model.specs.Kernel.{process_left_behind, return_outcome, stop_outcome, free_outcome, map_outcome, xmalloc, length_outcome};
 ghost use Rattle.xm_owner.specs.Holdings.{block_held_at};
-ghost use Rattle.rk_node.specs.Standing.{node_model, turn_of};
+ghost use Rattle.rk_node.specs.Standing.{node_model, turn_model};
 ghost use Rattle.rk_node.specs.Ready.{IsInTurn, HasRoom};
-ghost use Rattle.rk_node.specs.Moves.{with_mapped, IsNamed};
-ghost use Rattle.rk_node.specs.Wording.{HasMade};
-ghost use Rattle.rk_node.specs.BlockCalls.{length_outcome, HasMadeAt};
+ghost use Rattle.rk_node.specs.Moves.{with_mapped_block, IsWindowOfAddress};
+ghost use Rattle.rk_node.specs.Wording.{HasDoneCall};
+ghost use Rattle.rk_node.specs.BlockCalls.{HasDoneBlockCall};
 
 use crate::node::Node;
 use crate::pid::Pid;
 use crate::turn::{CallEnd, Turn};
+use ce_model::calls::{DONE, NO_ADDRESS};
 use ce_model::{BLOCK_ROOM, Stop, WINDOW_BASE, WINDOW_COUNT, WINDOW_SIZE};
 use xm_block::Block;
 
 impl Node {
-    /// The block at a window of a process that the address names, by its window: the address is the start of a window that
-    /// holds one.
+    /// The block at a window of a process that the address names, by its window: the address is the
+    /// start of a window that holds one.
     pub fn block_named(&self, pid: Pid, address: u32) -> Result<u32, Stop>
-        ensures { IsNamed (block_held_at self.now.held_blocks.mappings pid.number)
+        ensures { IsWindowOfAddress (block_held_at self.now.held_blocks.mappings pid.number)
             (block_named (process_at (node_model self.now) pid.number).space address) result }
     {
         match window_at(address) {
@@ -32,7 +33,7 @@ impl Node {
     /// The block at the window that begins at an address, by its window.
     fn block_at(&self, pid: Pid, window: u32, address: u32) -> Result<u32, Stop>
         requires { window ≡ window_of address }
-        ensures { IsNamed (block_held_at self.now.held_blocks.mappings pid.number)
+        ensures { IsWindowOfAddress (block_held_at self.now.held_blocks.mappings pid.number)
             (block_at_window
             (slice_get (process_at (node_model self.now) pid.number).space.windows window) address)
             result }
@@ -61,7 +62,7 @@ impl Node {
         ensures start { result
             ≡ window_start (length (process_at (node_model self.old) pid.number).space.windows) }
         ensures node { node_model self.new ≡ with_process (node_model self.old) pid.number
-            (with_mapped block (process_at (node_model self.old) pid.number)) }
+            (with_mapped_block block (process_at (node_model self.old) pid.number)) }
         ensures batch { self.new.batch ≡ self.old.batch }
         ensures room { self.new.room ≡ self.old.room }
     {
@@ -89,36 +90,36 @@ impl Node {
     }
 
     /// The call returns at once.
-    pub fn return_outcome(&mut self, turn: Turn, value: u32) -> CallEnd
+    pub fn return_value(&mut self, turn: Turn, value: u32) -> CallEnd
         requires { self.old.batch ≡ Some [] }
-        ensures { HasMade (λ node turn p. return_outcome node turn p value)
-            self.old self.new (turn_of turn) (turn_of turn) result }
+        ensures { HasDoneCall (λ node turn p. return_outcome node turn p value)
+            self.old self.new (turn_model turn) (turn_model turn) result }
     {
         self.answer(turn.pid, value);
-        CallEnd::GoesOn
+        CallEnd::Continuation
     }
 
     /// The process of the turn stops.
-    pub fn stop_outcome(&mut self, turn: Turn, cause: Stop) -> CallEnd
-        requires { IsInTurn self.old (turn_of turn) }
-        ensures { HasMade (λ node turn p. stop_outcome node turn p cause)
-            self.old self.new (turn_of turn) (turn_of turn) result }
+    pub fn stop_turn(&mut self, turn: Turn, cause: Stop) -> CallEnd
+        requires { IsInTurn self.old (turn_model turn) }
+        ensures { HasDoneCall (λ node turn p. stop_outcome node turn p cause)
+            self.old self.new (turn_model turn) (turn_model turn) result }
     {
         self.stop(turn.pid, cause);
-        CallEnd::TurnEnds
+        CallEnd::TurnConclusion
     }
 
-    /// xmalloc: the store's least block is mapped at the next window, with so many zero bytes; where that can't be, the answer
-    /// is 0.
+    /// xmalloc: the store's least block is mapped at the next window, with so many zero bytes;
+    /// where that can't be, the answer is 0.
     pub fn xmalloc(&mut self, turn: Turn) -> CallEnd
-        requires { IsInTurn self.old (turn_of turn) }
-        ensures { HasMade xmalloc self.old self.new (turn_of turn) (turn_of turn) result }
+        requires { IsInTurn self.old (turn_model turn) }
+        ensures { HasDoneCall xmalloc self.old self.new (turn_model turn) (turn_model turn) result }
     {
         let length = self.argument(turn.pid, 0);
         if self.cannot_map(turn.pid, length) {
-            self.return_outcome(turn, 0)
+            self.return_value(turn, NO_ADDRESS)
         } else {
-            self.map_outcome(turn, length)
+            self.map_least_block(turn, length)
         }
     }
 
@@ -131,44 +132,46 @@ impl Node {
         length > BLOCK_ROOM || !self.has_unused_window(pid)
     }
 
-    /// The store's least block is mapped at the next window; where the store is empty, the answer is 0.
-    fn map_outcome(&mut self, turn: Turn, length: u32) -> CallEnd
-        requires ready { IsInTurn self.old (turn_of turn) }
+    /// The store's least block is mapped at the next window; where the store is empty, the answer
+    /// is 0.
+    fn map_least_block(&mut self, turn: Turn, length: u32) -> CallEnd
+        requires ready { IsInTurn self.old (turn_model turn) }
         requires length { length ≤ block_room }
         requires unused { IsTrue
             (has_unused_window (process_at (node_model self.old) turn.pid.number).space) }
-        ensures { HasMade (λ node turn p. map_outcome node turn p length node.store)
-            self.old self.new (turn_of turn) (turn_of turn) result }
+        ensures { HasDoneCall (λ node turn p. map_outcome node turn p length node.store)
+            self.old self.new (turn_model turn) (turn_model turn) result }
     {
         match self.store.take_least() {
-            None => self.return_outcome(turn, 0),
+            None => self.return_value(turn, NO_ADDRESS),
             Some(mut block) => {
                 block.reset(length);
                 let address = self.map(turn.pid, block);
-                self.return_outcome(turn, address)
+                self.return_value(turn, address)
             }
         }
     }
 
     /// xfree of the block at a window: it goes to the store, and the answer is 0.
-    pub fn free_outcome(&mut self, turn: Turn, window: u32) -> CallEnd
-        requires ready { IsInTurn self.old (turn_of turn) }
+    pub fn free_block(&mut self, turn: Turn, window: u32) -> CallEnd
+        requires ready { IsInTurn self.old (turn_model turn) }
         requires held { IsSome
             (block_held_at self.old.held_blocks.mappings turn.pid.number window) }
-        ensures { HasMadeAt window free_outcome self.old self.new (turn_of turn) result }
+        ensures { HasDoneBlockCall window free_outcome self.old self.new (turn_model turn) result }
     {
         let block = self.take_out(turn.pid, window);
         self.give(block);
-        self.return_outcome(turn, 0)
+        self.return_value(turn, DONE)
     }
 
     /// xlength of the block at a window: the answer is its length.
-    pub fn length_outcome(&mut self, turn: Turn, window: u32) -> CallEnd
-        requires { IsInTurn self.old (turn_of turn) }
-        ensures { HasMadeAt window length_outcome self.old self.new (turn_of turn) result }
+    pub fn return_length(&mut self, turn: Turn, window: u32) -> CallEnd
+        requires { IsInTurn self.old (turn_model turn) }
+        ensures { HasDoneBlockCall window length_outcome self.old self.new (turn_model turn)
+            result }
     {
         let length = self.length_at(turn.pid, window);
-        self.return_outcome(turn, length)
+        self.return_value(turn, length)
     }
 
     /// The length of the block at a window, which holds one.

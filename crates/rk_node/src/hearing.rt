@@ -1,52 +1,54 @@
 ghost use Rattle.std.specs.Prelude.{◌≡◌, ◌<◌, [], Some, None};
+ghost use Rattle.ce_model.specs.declared.calls.TheConstants.{DONE};
 ghost use Rattle.ce_model.specs.declared.process.Status.{Status};
 ghost use Rattle.ce_model.specs.Limits.{process_count};
 ghost use Rattle.ce_model.specs.Process.{started_process};
 ghost use Rattle.ce_model.specs.Node.{process_at, blocks_of};
-ghost use Rattle.ce_model.specs.Hearing.{mail_of, kill_of, answer_of, with_turn, with_answered_turn, with_received, node_after_hearing};
+ghost use Rattle.ce_model.specs.Hearing.{mail_of, kill_of, answer_of, with_turn, with_answered_turn, with_received_parcel, node_after_hearing};
 ghost use Rattle.ce_solo.proofs.Counting.{count};
 ghost use Rattle.rk_mail.specs.Items.{parcel_of};
 ghost use Rattle.rk_mail.specs.Talk.{hearing_model};
 ghost use Rattle.rk_node.specs.Standing.{node_model};
 ghost use Rattle.rk_node.specs.Ready.{IsHearing, HasRoom};
-ghost use Rattle.rk_node.specs.Hearings.{IsWorkOf, HasRoomToHear, batch_after};
+ghost use Rattle.rk_node.specs.Hearings.{IsNodeWork, HasRoomToHear, batch_after_hearing};
 
 use crate::node::Node;
 use crate::pid::Pid;
 use crate::saying::{is_receiving, is_stopped};
 use crate::turn::Turn;
+use ce_model::calls::{DONE, KILLED_BEFORE, NO_ADDRESS, UNUSED_ID, USED_ID};
 use ce_model::{Status, Stop, TURN_INSTRUCTIONS};
 use rk_mail::{Batch, Hearing, Parcel};
 use rv_image::Image;
 
 impl Node {
     /// What the node becomes by the answer to its call.
-    pub fn hears(&mut self, images: &[Image], heard: Hearing)
+    pub fn hears(&mut self, images: &[Image], hearing: Hearing)
         requires ready { IsHearing self.old }
-        requires work { IsWorkOf images.now (node_model self.old) heard }
-        requires room { HasRoomToHear heard self.old }
+        requires work { IsNodeWork images.now (node_model self.old) hearing }
+        requires room { HasRoomToHear hearing self.old }
         ensures node { node_model self.new
-            ≡ node_after_hearing images.now (node_model self.old) (hearing_model heard) }
-        ensures batch { self.new.batch ≡ batch_after heard self.old.batch }
+            ≡ node_after_hearing images.now (node_model self.old) (hearing_model hearing) }
+        ensures batch { self.new.batch ≡ batch_after_hearing hearing self.old.batch }
         ensures room { self.new.room ≡ self.old.room }
     {
-        match heard {
+        match hearing {
             Hearing::Start { pid, image } => self.start(
                 Pid { number: pid },
                 &images[image as usize],
             ),
             Hearing::Mail(parcel) => self.take_mail(parcel),
             Hearing::Kill { pid } => self.end_process(Pid { number: pid }),
-            Hearing::Poll { pid } => self.begin_answered_turn(Pid { number: pid }, 0),
+            Hearing::Poll { pid } => self.begin_answered_turn(Pid { number: pid }, NO_ADDRESS),
             Hearing::Idle => {}
             Hearing::Spent => {}
             Hearing::Noted => {}
             Hearing::Posted(batch) => self.regain_batch(batch),
-            Hearing::Spawned => self.answer_call(0),
-            Hearing::Killed => self.answer_call(0),
-            Hearing::Used => self.answer_call(2),
-            Hearing::Unused => self.answer_call(2),
-            Hearing::Already => self.answer_call(3),
+            Hearing::Spawned => self.answer_call(DONE),
+            Hearing::Killed => self.answer_call(DONE),
+            Hearing::Used => self.answer_call(USED_ID),
+            Hearing::Unused => self.answer_call(UNUSED_ID),
+            Hearing::Already => self.answer_call(KILLED_BEFORE),
         }
     }
 
@@ -114,15 +116,16 @@ impl Node {
         }
     }
 
-    /// A process gets a parcel: its block is mapped at the next window, and its turn begins. Where no window is left it stops,
-    /// and this block and all its others are in the store.
+    /// A process gets a parcel: its block is mapped at the next window, and its turn begins. Where
+    /// no window is left it stops, and this block and all its others are in the store.
     fn receive(&mut self, parcel: Parcel)
         requires ready { IsHearing self.old }
         requires idle { self.old.turn ≡ None }
         requires pid { parcel.to.pid < process_count }
         requires room { HasRoom self.old }
         requires apart { count parcel.block.id (blocks_of (node_model self.old)) ≡ 0 }
-        ensures node { node_model self.new ≡ with_received (node_model self.old) (parcel_of parcel)
+        ensures node { node_model self.new
+            ≡ with_received_parcel (node_model self.old) (parcel_of parcel)
             (process_at (node_model self.old) parcel.to.pid) }
         ensures batch { self.new.batch ≡ self.old.batch }
         ensures room { self.new.room ≡ self.old.room }
@@ -168,11 +171,11 @@ impl Node {
     /// The batch comes back, and the message's sender is answered.
     fn regain_batch(&mut self, batch: Batch)
         ensures node { node_model self.new
-            ≡ node_after_hearing [] (node_model self.old) (answer_of 0) }
+            ≡ node_after_hearing [] (node_model self.old) (answer_of DONE) }
         ensures batch { self.new.batch ≡ Some batch }
         ensures room { self.new.room ≡ self.old.room }
     {
         self.batch = Some(batch);
-        self.answer_call(0);
+        self.answer_call(DONE);
     }
 }

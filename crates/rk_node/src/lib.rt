@@ -1,6 +1,8 @@
-//! The kernel of a node, in a box: its processes, their blocks and its store, what it says and what it hears.
+//! The kernel of a node, in a box: its processes, their blocks and its store, what it says and what
+//! it hears.
 #![tactic(auto)]
 
+mod awaited_call;
 mod blocks;
 mod hearing;
 mod kernel;
@@ -9,15 +11,14 @@ mod lives;
 mod messages;
 mod node;
 mod node_box;
-mod out;
 mod pid;
 mod saying;
 mod scrubbing;
 mod turn;
 
+pub use awaited_call::AwaitedCall;
 pub use laws::scrubbed_is_clean_law;
 pub use node_box::NodeBox;
-pub use out::Out;
 
 #[cfg(test)]
 mod tests;

@@ -1,25 +1,28 @@
 ghost use Rattle.std.specs.Prelude.{◌<◌, ◌≡◌, ◌+◌, ◌^◌, ◌≤◌, ◌++◌, length, take, drop, zip, IsSome, Some, None, []};
 ghost use Rattle.std.specs.List.{list_all};
+ghost use Rattle.rv_model.specs.declared.limits.TheConstants.{WORD_SIZE};
 ghost use Rattle.ce_model.specs.declared.calls.TheConstants.{NUMBER_ARGUMENT};
 ghost use Rattle.ce_model.specs.Limits.{greatest_targets};
-ghost use Rattle.ce_model.specs.Space.{result_map, loaded_at, memory_place, places_at};
+ghost use Rattle.ce_model.specs.Space.{result_map, load_result, memory_place, places_at};
 ghost use Rattle.ce_model.specs.Node.{process_at, is_place};
 ghost use Rattle.ce_model.specs.Kernel.{with_store, is_target, place_named, send_outcome, copies_outcome, xmsend_block, xrecv, xrecvb};
 ghost use Rattle.xm_owner.specs.Holdings.{block_held_at};
 ghost use Rattle.rk_mail.specs.Targets.{bytes_of, targets_of};
-ghost use Rattle.rk_node.specs.Standing.{node_model, turn_of};
+ghost use Rattle.rk_node.specs.Standing.{node_model, turn_model};
 ghost use Rattle.rk_node.specs.Ready.{IsInTurn};
-ghost use Rattle.rk_node.specs.Wording.{HasMade};
-ghost use Rattle.rk_node.specs.BlockCalls.{HasMadeAt};
+ghost use Rattle.rk_node.specs.Wording.{HasDoneCall};
+ghost use Rattle.rk_node.specs.BlockCalls.{HasDoneBlockCall};
 
 use crate::node::Node;
 use crate::pid::Pid;
 use crate::turn::{CallEnd, Turn};
+use ce_model::calls::{NO_PLACE, TOO_FEW_BLOCKS, TOO_MANY_PLACES};
 use ce_model::{GREATEST_TARGETS, HOST, PROCESS_COUNT, Place, Status, Stop};
 use rk_mail::{Batch, Say};
+use rv_model::WORD_SIZE;
 
 /// To how many places one call can send.
-const MOST_PLACES: usize = GREATEST_TARGETS as usize;
+const GREATEST_PLACES: usize = GREATEST_TARGETS as usize;
 
 impl Node {
     /// A place where a process can be: a node of the cube, and a process id.
@@ -57,12 +60,12 @@ impl Node {
     }
 
     /// The call of the turn's process leaves the node.
-    pub fn leave_outcome(&mut self, turn: Turn, say: Say) -> CallEnd
-        ensures result { result ≡ CallEnd.Leaves say }
+    pub fn leave_node(&mut self, turn: Turn, say: Say) -> CallEnd
+        ensures result { result ≡ CallEnd.Departure say }
         ensures after { self.new ≡ record self.old { turn = Some turn } }
     {
         self.turn = Some(turn);
-        CallEnd::Leaves(say)
+        CallEnd::Departure(say)
     }
 
     /// Takes the spare batch.
@@ -77,55 +80,58 @@ impl Node {
         }
     }
 
-    /// xsend of the block at a window: it leaves the process for the place that the call names, if it is one.
-    pub fn send_outcome(&mut self, turn: Turn, window: u32) -> CallEnd
-        requires ready { IsInTurn self.old (turn_of turn) }
+    /// xsend of the block at a window: it leaves the process for the place that the call names, if
+    /// it is one.
+    pub fn send_block(&mut self, turn: Turn, window: u32) -> CallEnd
+        requires ready { IsInTurn self.old (turn_model turn) }
         requires held { IsSome
             (block_held_at self.old.held_blocks.mappings turn.pid.number window) }
-        ensures { HasMadeAt window send_outcome self.old self.new (turn_of turn) result }
+        ensures { HasDoneBlockCall window send_outcome self.old self.new (turn_model turn) result }
     {
         let to = self.place_named(turn.pid, 1);
         if !self.is_target(to) {
-            return self.return_outcome(turn, 1);
+            return self.return_value(turn, NO_PLACE);
         }
         let block = self.take_out(turn.pid, window);
         let mut batch = self.take_batch();
-        batch.first(to, block);
+        batch.add_first(to, block);
         let pid = turn.pid.number;
-        self.leave_outcome(turn, Say::Send { pid, batch })
+        self.leave_node(turn, Say::Send { pid, batch })
     }
 
-    /// xmsend of the block at a window: the whole list of places is read, and the block is sent to them.
+    /// xmsend of the block at a window: the whole list of places is read, and the block is sent to
+    /// them.
     pub fn xmsend_block(&mut self, turn: Turn, window: u32) -> CallEnd
-        requires ready { IsInTurn self.old (turn_of turn) }
+        requires ready { IsInTurn self.old (turn_model turn) }
         requires held { IsSome
             (block_held_at self.old.held_blocks.mappings turn.pid.number window) }
-        ensures { HasMadeAt window xmsend_block self.old self.new (turn_of turn) result }
+        ensures { HasDoneBlockCall window xmsend_block self.old self.new (turn_model turn) result }
     {
         let count = self.argument(turn.pid, 1);
         if count > GREATEST_TARGETS {
-            return self.return_outcome(turn, 3);
+            return self.return_value(turn, TOO_MANY_PLACES);
         }
-        let mut all = [Place { node: 0, pid: 0 }; MOST_PLACES];
+        let mut all = [Place { node: 0, pid: 0 }; GREATEST_PLACES];
         let places = &mut all[..count as usize];
         match self.read_places(turn.pid, self.argument(turn.pid, 2), places) {
-            Ok(()) => self.copies_outcome(turn, window, places),
-            Err(cause) => self.stop_outcome(turn, cause),
+            Ok(()) => self.send_copies(turn, window, places),
+            Err(cause) => self.stop_turn(turn, cause),
         }
     }
 
-    /// Reads places, one behind the other from an address on, or why a word of theirs can't be read.
+    /// Reads places, one behind the other from an address on, or why a word of theirs can't be
+    /// read.
     fn read_places(&self, pid: Pid, address: u32, places: &mut [Place]) -> Result<(), Stop>
         ensures { places_at (process_at (node_model self.now) pid.number).space address
             (length places.old) ≡ result_map (λ _. places.new) result }
     {
-        let mut at = address;
+        let mut place_address = address;
         for place in places.iter_mut() {
-            match self.place_at(pid, at) {
+            match self.place_at(pid, place_address) {
                 Ok(found) => *place = found,
                 Err(cause) => return Err(cause),
             }
-            at = at.wrapping_add(8);
+            place_address = place_address.wrapping_add(2 * WORD_SIZE);
         }
         Ok(())
     }
@@ -136,8 +142,11 @@ impl Node {
             ≡ memory_place (process_at (node_model self.now) pid.number).space address }
     {
         match self.word_at(pid, address) {
-            Ok(node) => match self.word_at(pid, address.wrapping_add(4)) {
-                Ok(of) => Ok(Place { node, pid: of }),
+            Ok(node) => match self.word_at(pid, address.wrapping_add(WORD_SIZE)) {
+                Ok(process_id) => Ok(Place {
+                    node,
+                    pid: process_id,
+                }),
                 Err(cause) => Err(cause),
             },
             Err(cause) => Err(cause),
@@ -146,38 +155,39 @@ impl Node {
 
     /// The word at an address of a process.
     fn word_at(&self, pid: Pid, address: u32) -> Result<u32, Stop>
-        ensures { result ≡ loaded_at (process_at (node_model self.now) pid.number).space address 4 }
+        ensures { result
+            ≡ load_result (process_at (node_model self.now) pid.number).space address WORD_SIZE }
     {
         let process = &self.processes[pid.number as usize];
         process.load_word(pid.number, &self.held_blocks, address)
     }
 
-    /// Sends the block at a window to these places: the first gets the block, each further one a copy in the store's least
-    /// block.
-    fn copies_outcome(&mut self, turn: Turn, window: u32, places: &[Place]) -> CallEnd
-        requires ready { IsInTurn self.old (turn_of turn) }
+    /// Sends the block at a window to these places: the first gets the block, each further one a
+    /// copy in the store's least block.
+    fn send_copies(&mut self, turn: Turn, window: u32, places: &[Place]) -> CallEnd
+        requires ready { IsInTurn self.old (turn_model turn) }
         requires held { IsSome
             (block_held_at self.old.held_blocks.mappings turn.pid.number window) }
         requires few { length places.now ≤ greatest_targets }
-        ensures { HasMadeAt window
+        ensures { HasDoneBlockCall window
             (λ node turn p found. copies_outcome node turn p found places.now)
-            self.old self.new (turn_of turn) result }
+            self.old self.new (turn_model turn) result }
     {
         let Some((first, others)) = places.split_first() else {
-            return self.free_outcome(turn, window);
+            return self.free_block(turn, window);
         };
         if !self.are_targets(places) {
-            return self.return_outcome(turn, 1);
+            return self.return_value(turn, NO_PLACE);
         }
         if (self.store.count() as usize) < others.len() {
-            return self.return_outcome(turn, 2);
+            return self.return_value(turn, TOO_FEW_BLOCKS);
         }
         let block = self.take_out(turn.pid, window);
         let mut batch = self.take_batch();
-        batch.first(*first, block);
+        batch.add_first(*first, block);
         self.add_copies(&mut batch, others);
         let pid = turn.pid.number;
-        self.leave_outcome(turn, Say::Send { pid, batch })
+        self.leave_node(turn, Say::Send { pid, batch })
     }
 
     /// A message can be sent to each of these places.
@@ -187,7 +197,8 @@ impl Node {
         places.iter().all(|to| self.is_target(*to))
     }
 
-    /// Adds a copy of the message for each of these places, in the store's least blocks; the store has enough.
+    /// Adds a copy of the message for each of these places, in the store's least blocks; the store
+    /// has enough.
     fn add_copies(&mut self, batch: &mut Batch, places: &[Place])
         requires some { 1 ≤ length batch.old }
         requires few { length batch.old + length places.now ≤ greatest_targets }
@@ -211,22 +222,22 @@ impl Node {
 
     /// xrecv: the process polls, behind those that poll already, and its turn is over.
     pub fn xrecv(&mut self, turn: Turn) -> CallEnd
-        requires { IsInTurn self.old (turn_of turn) }
-        ensures { HasMade xrecv self.old self.new (turn_of turn) (turn_of turn) result }
+        requires { IsInTurn self.old (turn_model turn) }
+        ensures { HasDoneCall xrecv self.old self.new (turn_model turn) (turn_model turn) result }
     {
         self.set_status(turn.pid, Status::Polling);
         self.polling_ids.push_back_reserved(turn.pid.number);
         self.turn = None;
-        CallEnd::TurnEnds
+        CallEnd::TurnConclusion
     }
 
     /// xrecvb: the process waits for a message, and its turn is over.
     pub fn xrecvb(&mut self, turn: Turn) -> CallEnd
-        requires { IsInTurn self.old (turn_of turn) }
-        ensures { HasMade xrecvb self.old self.new (turn_of turn) (turn_of turn) result }
+        requires { IsInTurn self.old (turn_model turn) }
+        ensures { HasDoneCall xrecvb self.old self.new (turn_model turn) (turn_model turn) result }
     {
         self.set_status(turn.pid, Status::Asking);
         self.turn = None;
-        CallEnd::TurnEnds
+        CallEnd::TurnConclusion
     }
 }

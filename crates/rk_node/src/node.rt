@@ -2,7 +2,7 @@ ghost use Rattle.std.specs.Prelude.{◌≡◌, ◌==◌, ◌≤◌, replicate, p
 ghost use Rattle.std.specs.VecDeque.{deque_capacity};
 ghost use Rattle.ce_model.specs.declared.calls.TheConstants.{NUMBER_ARGUMENT};
 ghost use Rattle.ce_model.specs.Limits.{greatest_dim, process_count, home_blocks};
-ghost use Rattle.rk_process.specs.Seen.{unborn_own};
+ghost use Rattle.rk_process.specs.OwnStates.{unborn_state};
 ghost use Rattle.rk_node.specs.Tables.{IsStocked, IsStocked-prop};
 
 use crate::pid::Pid;
@@ -16,11 +16,12 @@ use std::collections::VecDeque;
 use xm_block::{Block, Store};
 use xm_owner::HeldBlocks;
 
-/// A node: its number in its cube, the cube's dimension, the home of its blocks, for how many blocks it has room, how many
-/// images there are, its processes by id, the blocks that they hold, its store, the ids in `xrecv`, longest first, its turn,
-/// and the spare batch, which is away while a message is out. There are as many processes as ids; blocks are held in windows
-/// that were used, in order; the store and the table of held blocks have each room for all that the node has room for; and
-/// there is memory for the list of those that poll.
+/// A node: its number in its cube, the cube's dimension, the home of its blocks, for how many
+/// blocks it has room, how many images there are, its processes by id, the blocks that they hold,
+/// its store, the ids in `xrecv`, longest first, its turn, and the spare batch, which is away while
+/// a message is out. There are as many processes as ids; blocks are held in windows that were used,
+/// in order; the store and the table of held blocks have each room for all that the node has room
+/// for; and there is memory for the list of those that poll.
 #[derive(Drop)]
 pub(crate) struct Node {
     pub home: u32,
@@ -42,17 +43,17 @@ pub(crate) struct Node {
 impl Node {
     ghost use Rattle.ce_model.specs.Blocks.{with_id};
     ghost use Rattle.ce_model.specs.Process.{argument, with_answer};
-    ghost use Rattle.ce_model.specs.Node.{process_at, with_process, without_poller, with_stopped};
+    ghost use Rattle.ce_model.specs.Node.{process_at, with_process, without_poller, with_stopped_process};
     ghost use Rattle.ce_model.specs.Kernel.{with_store};
     ghost use Rattle.ce_solo.proofs.Counting.{count};
     ghost use Rattle.rk_node.specs.Standing.{node_model};
-    ghost use Rattle.rk_node.specs.Ready.{IsOnce, HasRoom};
-    ghost use Rattle.rk_node.specs.Moves.{with_status, released_node, IsNew};
+    ghost use Rattle.rk_node.specs.Ready.{HasBlocksOnce, HasRoom};
+    ghost use Rattle.rk_node.specs.Moves.{with_status, released_node, IsNewNode};
 
     /// A node of this home, with its own blocks in its store and no process started.
     pub fn new(alloc: Global, home: u32, room: u32) -> Result<Node, NoMemory>
         requires { home_blocks ≤ room }
-        ensures { IfOk result (λ node. IsNew home room node) }
+        ensures { IfOk result (λ node. IsNewNode home room node) }
     {
         Ok(Node {
             home,
@@ -123,7 +124,7 @@ impl Node {
 
     /// Moves all blocks of a process to the store.
     fn release(&mut self, pid: Pid)
-        requires { IsOnce (node_model self.old) }
+        requires { HasBlocksOnce (node_model self.old) }
         ensures node { node_model self.new ≡ released_node pid.number (node_model self.old) }
         ensures batch { self.new.batch ≡ self.old.batch }
         ensures room { self.new.room ≡ self.old.room }
@@ -149,8 +150,8 @@ impl Node {
 
     /// Stops a process: its blocks go to the store, it polls no longer, and the turn is over.
     pub fn stop(&mut self, pid: Pid, cause: Stop)
-        requires { IsOnce (node_model self.old) }
-        ensures node { node_model self.new ≡ with_stopped (node_model self.old) pid.number
+        requires { HasBlocksOnce (node_model self.old) }
+        ensures node { node_model self.new ≡ with_stopped_process (node_model self.old) pid.number
             (process_at (node_model self.old) pid.number) cause }
         ensures batch { self.new.batch ≡ self.old.batch }
         ensures room { self.new.room ≡ self.old.room }
@@ -172,7 +173,7 @@ fn place_of(polling: &VecDeque<u32>, pid: u32) -> Option<usize>
 /// A process for each id, none of them started.
 #[tactic(auto, unfolding(ce_model::specs::Limits::process_count))]
 fn unborn_processes(alloc: Global) -> Result<Vec<Process>, NoMemory>
-    ensures { IfOk result (λ processes. processes.items ≡ replicate process_count unborn_own) }
+    ensures { IfOk result (λ processes. processes.items ≡ replicate process_count unborn_state) }
 {
     let mut processes = Vec::with_capacity(alloc, PROCESS_COUNT as usize)?;
     for _pid in 0..PROCESS_COUNT {

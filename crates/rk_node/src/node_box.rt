@@ -7,14 +7,14 @@ ghost use Rattle.ce_model.specs.Kernel.{with_store};
 ghost use Rattle.ce_model.specs.Saying.{says};
 ghost use Rattle.ce_model.specs.Hearing.{node_after_hearing};
 ghost use Rattle.xm_block.specs.Stores.{ids_of};
-ghost use Rattle.rk_mail.specs.Talk.{call_said, hearing_model};
-ghost use Rattle.rk_node.specs.Boxes.{IsClean, HasRoomForBlock, fresh_at, scrubbed_node};
+ghost use Rattle.rk_mail.specs.Talk.{call_of_say, hearing_model};
+ghost use Rattle.rk_node.specs.Boxes.{IsCleanBox, HasRoomForBlock, fresh_node_at, scrubbed_node};
 ghost use Rattle.rk_node.specs.Answering.{IsAwaitingAnswer, IsAbleToHear};
 ghost use Rattle.rk_node.specs.Withdrawal.{HasTakenOut};
-ghost use Rattle.rk_node.specs.Hearings.{AreApartFrom};
+ghost use Rattle.rk_node.specs.Hearings.{AreNewToStore};
 
+use crate::awaited_call::{AwaitedCall, awaited_call_after};
 use crate::node::Node;
-use crate::out::{Out, out_by};
 use crate::pid::Pid;
 use ce_daemon::Homed;
 use ce_model::{NoMemory, Status};
@@ -24,90 +24,92 @@ use std::alloc::Global;
 use std::marker::Model;
 use xm_block::{Block, Store};
 
-/// A node in a box, whose processes take turns. Contracts see the node of the model that it stands for, with the names of its
-/// blocks, for how many blocks it has room, and which of its calls is out.
+/// A node in a box, whose processes take turns. Contracts see the node of the model that it stands
+/// for, with the names of its blocks, for how many blocks it has room, and which of its calls is
+/// out.
 #[derive(Drop)]
 pub struct NodeBox {
     node: Node,
-    out: Out,
+    awaited_call: AwaitedCall,
 }
 
 impl Model for NodeBox {
     ghost use Rattle.rk_node.specs.Boxes.{Box};
     ghost use Rattle.rk_node.specs.Standing.{node_model};
-    ghost use Rattle.rk_node.specs.Whole.{IsWhole};
+    ghost use Rattle.rk_node.specs.Whole.{IsWholeBox};
 
     ghost Value = { Box };
 
     ghost view = { λ inside. record {
       node = node_model inside.node;
       room = inside.node.room;
-      out = inside.out;
+      awaited_call = inside.awaited_call;
     } };
 
-    ghost invariant = { λ inside. IsWhole inside.node inside.out };
+    ghost invariant = { λ inside. IsWholeBox inside.node inside.awaited_call };
 }
 
 impl NodeBox {
-    /// A clean box of this home, with room for so many blocks, 2,080 at least, all that the greatest cube has: its own blocks
-    /// are in its store. `NoMemory` may come at any time, and from no other call.
+    /// A clean box of this home, with room for so many blocks, `GREATEST_BLOCKS` at least, all that
+    /// the greatest cube has: its own blocks are in its store. `NoMemory` may come at any time, and
+    /// from no other call.
     pub fn new(alloc: Global, home: u32, room: u32) -> Result<NodeBox, NoMemory>
         requires { greatest_blocks ≤ room }
-        ensures clean { IfOk result (λ made. IsClean made) }
-        ensures home { IfOk result (λ made. made.node.home ≡ home) }
-        ensures room { IfOk result (λ made. made.room ≡ room) }
+        ensures clean { IfOk result (λ node_box. IsCleanBox node_box) }
+        ensures home { IfOk result (λ node_box. node_box.node.home ≡ home) }
+        ensures room { IfOk result (λ node_box. node_box.room ≡ room) }
     {
         Ok(NodeBox {
             node: Node::new(alloc, home, room)?,
-            out: Out::Nothing,
+            awaited_call: AwaitedCall::Nothing,
         })
     }
 
-    /// Makes a clean box the node of this relative number in a cube of this dimension, 6 at most, with so many images, 64 at
-    /// most.
+    /// Makes a clean box the node of this relative number in a cube of this dimension,
+    /// `GREATEST_DIMENSION` at most, with so many images, 64 at most.
     pub fn enter(&mut self, relative: u32, dim: u32, images: u32)
-        requires clean { IsClean self.old }
+        requires clean { IsCleanBox self.old }
         requires dim { dim ≤ greatest_dim }
         requires relative { relative < 2 ^ dim }
         requires images { images ≤ greatest_images }
         ensures { self.new
-            ≡ record self.old { node = fresh_at self.old.node.home relative dim images } }
+            ≡ record self.old { node = fresh_node_at self.old.node.home relative dim images } }
     {
         self.node.relative = relative;
         self.node.dim = dim;
         self.node.images = images;
     }
 
-    /// Runs the current turn, with its calls that the node answers, up to the next call that leaves the node. Without a turn,
-    /// and where it ends, that is a Take. No call but a Take is out. The node keeps its blocks, but for those that a message
-    /// takes out.
+    /// Runs the current turn, with its calls that the node answers, up to the next call that leaves
+    /// the node. Without a turn, and where it ends, that is a Take. No call but a Take is out. The
+    /// node keeps its blocks, but for those that a message takes out.
     pub fn says(&mut self) -> Say
-        requires idle { self.old.out ≡ Out.Nothing }
-        ensures call { call_said result ≡ (says self.old.node).call }
+        requires idle { self.old.awaited_call ≡ AwaitedCall.Nothing }
+        ensures call { call_of_say result ≡ (says self.old.node).call }
         ensures node { self.new.node ≡ (says self.old.node).node }
         ensures room { self.new.room ≡ self.old.room }
-        ensures said { IsAwaitingAnswer self.new (call_said result) }
-        ensures blocks { HasTakenOut self.old.node self.new.node (call_said result) }
+        ensures said { IsAwaitingAnswer self.new (call_of_say result) }
+        ensures blocks { HasTakenOut self.old.node self.new.node (call_of_say result) }
     {
-        let said = self.node.says();
-        self.out = out_by(&said);
-        said
+        let say = self.node.says();
+        self.awaited_call = awaited_call_after(&say);
+        say
     }
 
     /// Hears the answer to the call that it said. The list has as many images as `enter` was told.
-    pub fn hears(&mut self, images: &[Image], heard: Hearing)
+    pub fn hears(&mut self, images: &[Image], hearing: Hearing)
         requires images { length images.now ≡ self.old.node.images }
-        requires heard { IsAbleToHear images.now self.old heard }
+        requires heard { IsAbleToHear images.now self.old hearing }
         ensures node { self.new.node
-            ≡ node_after_hearing images.now self.old.node (hearing_model heard) }
+            ≡ node_after_hearing images.now self.old.node (hearing_model hearing) }
         ensures room { self.new.room ≡ self.old.room }
-        ensures out { self.new.out ≡ Out.Nothing }
+        ensures out { self.new.awaited_call ≡ AwaitedCall.Nothing }
     {
-        self.node.hears(images, heard);
-        self.out = Out::Nothing;
+        self.node.hears(images, hearing);
+        self.awaited_call = AwaitedCall::Nothing;
     }
 
-    /// What a process does at this moment; its id is below 8.
+    /// What a process does at this moment; its id is below `PROCESS_COUNT`.
     pub fn status(&self, pid: u32) -> Status
         requires pid { pid < process_count }
         ensures { result ≡ (process_at self.now.node pid).status }
@@ -115,12 +117,13 @@ impl NodeBox {
         self.node.status(Pid { number: pid })
     }
 
-    /// Moves every block to another store, and makes every process one that wasn't started yet. The store has room for them,
-    /// and their names and those in it all differ. No call but a Take is out.
+    /// Moves every block to another store, and makes every process one that wasn't started yet. The
+    /// store has room for them, and their names and those in it all differ. No call but a Take is
+    /// out.
     pub fn scrub(&mut self, out: &mut Store)
-        requires idle { self.old.out ≡ Out.Nothing }
+        requires idle { self.old.awaited_call ≡ AwaitedCall.Nothing }
         requires room { length (blocks_of self.old.node) ≤ out.old.spare }
-        requires apart { AreApartFrom (blocks_of self.old.node) out.old }
+        requires apart { AreNewToStore (blocks_of self.old.node) out.old }
         ensures after { self.new ≡ record self.old { node = scrubbed_node self.old.node } }
         ensures moved { ids_of out.new.blocks
             ≡ with_ids (blocks_of self.old.node) (ids_of out.old.blocks) }
@@ -129,7 +132,8 @@ impl NodeBox {
         self.node.scrub(out);
     }
 
-    /// Puts a block of this home into the store. No block of its name is in the box, which has room for it.
+    /// Puts a block of this home into the store. No block of its name is in the box, which has room
+    /// for it.
     pub fn put_home(&mut self, block: Block)
         requires home { block.id.home ≡ self.old.node.home }
         requires apart { ¬ (Contains (blocks_of self.old.node) block.id) }
@@ -143,11 +147,11 @@ impl NodeBox {
 }
 
 impl Homed for NodeBox {
-    ghost use Rattle.rk_node.specs.Boxes.{IsClean};
+    ghost use Rattle.rk_node.specs.Boxes.{IsCleanBox};
 
-    ghost home = { λ made. made.node.home };
+    ghost home = { λ node_box. node_box.node.home };
 
-    ghost clean = { IsClean };
+    ghost clean = { IsCleanBox };
 
     fn home(&self) -> u32 {
         self.node.home

@@ -2,7 +2,7 @@ ghost use Rattle.std.specs.Prelude.{◌≡◌, IfOk, IfSome, [], None};
 ghost use Rattle.ce_model.specs.declared.process.Status.TheVariants.{Unborn};
 ghost use Rattle.ce_model.specs.Node.{take_call, process_at};
 ghost use Rattle.rk_node.specs.Answering.{IsAwaitingAnswer};
-ghost use Rattle.rk_node.specs.Boxes.{fresh_at};
+ghost use Rattle.rk_node.specs.Boxes.{fresh_node_at};
 
 use super::*;
 use ce_model::{BlockId, GREATEST_BLOCKS, HOST, Place, Status, Stop};
@@ -12,8 +12,8 @@ use std::alloc::Global;
 use std::test::Fail;
 use xm_block::{Block, Store};
 
-// Sends a block with the word 7 to the host, and reads the block that it gave away. The words are those of the RISC-V
-// unprivileged specification, by hand.
+// Sends a block with the word 7 to the host, and reads the block that it gave away. The words are
+// those of the RISC-V unprivileged specification, by hand.
 const GONE: [u32; 11] = [
     0x0080_0513, // li a0, 8
     0x0010_0893, // li a7, 1
@@ -36,24 +36,25 @@ fn gone_image(alloc: Global) -> Result<Image, Fail> {
     Ok(Image::of_parts(0x0001_0000, bytes, 0)?)
 }
 
-// A box of home 0, as the node of a cube of one node with one image, that has asked for its first work.
+// A box of home 0, as the node of a cube of one node with one image, that has asked for its first
+// work.
 fn asking_box(alloc: Global) -> Result<NodeBox, Fail>
-    ensures said { IfOk result (λ made. IsAwaitingAnswer made (take_call 0 0 None)) }
-    ensures node { IfOk result (λ made. made.node ≡ fresh_at 0 0 0 1) }
-    ensures unborn { IfOk result (λ made. (process_at made.node 0).status ≡ Unborn) }
-    ensures images { IfOk result (λ made. made.node.images ≡ 1) }
+    ensures said { IfOk result (λ node_box. IsAwaitingAnswer node_box (take_call 0 0 None)) }
+    ensures node { IfOk result (λ node_box. node_box.node ≡ fresh_node_at 0 0 0 1) }
+    ensures unborn { IfOk result (λ node_box. (process_at node_box.node 0).status ≡ Unborn) }
+    ensures images { IfOk result (λ node_box. node_box.node.images ≡ 1) }
 {
-    let mut made = NodeBox::new(alloc, 0, GREATEST_BLOCKS)?;
-    made.enter(0, 0, 1);
+    let mut node_box = NodeBox::new(alloc, 0, GREATEST_BLOCKS)?;
+    node_box.enter(0, 0, 1);
     let Say::Take {
         asking: 0,
         dead: 0,
         poller: None,
-    } = made.says()
+    } = node_box.says()
     else {
         return Err("no first take")?;
     };
-    Ok(made)
+    Ok(node_box)
 }
 
 // What goes to the host alone: the block's name, and the first of its bytes. The batch is emptied.

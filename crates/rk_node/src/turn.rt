@@ -4,7 +4,8 @@ ghost use Rattle.ce_model.specs.Limits.{turn_instructions, turn_calls};
 use crate::pid::Pid;
 use rk_mail::Say;
 
-/// The turn of a process: its id, how many instructions it may still run, and how many counted calls it has made.
+/// The turn of a process: its id, how many instructions it may still run, and how many counted
+/// calls it has made.
 #[derive(Clone, Copy, Debug, PartialEq, Eq)]
 pub(crate) struct Turn {
     pub pid: Pid,
@@ -31,9 +32,9 @@ pub(crate) enum BlockCall {
 #[derive(Drop)]
 pub(crate) enum CallEnd {
     /// The turn goes on.
-    GoesOn,
+    Continuation,
     /// The node says this.
-    Leaves(Say),
+    Departure(Say),
     /// The turn is over.
-    TurnEnds,
+    TurnConclusion,
 }

@@ -9,12 +9,12 @@ use Rattle.std.proofs.lemmas.List.{length-map}
 use Rattle.ce_model.specs.Limits.{window_base}
 use Rattle.ce_model.specs.Blocks.{Block}
 use Rattle.ce_model.specs.Space.{window_of, offset_of}
-use Rattle.xm_owner.specs.Holdings.{Mapping, MappingTable, block_held_at, is_at, with_block_at, without_process}
+use Rattle.xm_owner.specs.Holdings.{Mapping, MappingTable, block_held_at, is_mapping_at, with_block_at, without_process}
 use Rattle.xm_owner.proofs.Mappings.{changes-with_block}
-use Rattle.rk_process.specs.Seen.{windows_of, place_of, rest_of}
+use Rattle.rk_process.specs.OwnStates.{windows_of, place_of, rest_of}
 use Rattle.rv_model.specs.declared.stop.Stop.{Stop}
 use Rattle.ce_model.specs.Space.{result_map}
-use Rattle.rk_process.specs.Windows.{window_found, block_left, windows_left}
+use Rattle.rk_process.specs.Windows.{window_at_address, stored_block, stored_windows}
 
 pub length-windows_of : (mappings : List Mapping) (pid used : ℕ) → length (windows_of mappings pid used) ≡ used
 unfolding windows_of
@@ -44,7 +44,7 @@ le-false : (m n : ℕ) → n < m → nat_le m n ≡ false
 le-false m n h = grind (arith, nat_tests)
 
 -- the window of an address holds what is held there, where it was used
-pub window_found-of : (mappings : List Mapping) (pid used a : ℕ) → window_found (windows_of mappings pid used) a
+pub window_found-of : (mappings : List Mapping) (pid used a : ℕ) → window_at_address (windows_of mappings pid used) a
     ≡ (if nat_le window_base a && nat_lt (window_of a) used then Some (block_held_at mappings pid (window_of a)) else None)
 window_found-of mappings pid used a = elim (cases_lt a window_base) [
   | inl below ↦ rw (lt-true a window_base below, le-false window_base a below) refl
@@ -59,7 +59,7 @@ window_found-of mappings pid used a = elim (cases_lt a window_base) [
 -- the block that a window holds, put there again, changes nothing
 pub with_block_at-same : (pid window : ℕ) (block : Block) (mappings : List Mapping) → block_held_at mappings pid window ≡ Some block → with_block_at pid window block mappings ≡ mappings
 with_block_at-same pid window block [] held = refl
-with_block_at-same pid window block (mapping ∷ mappings) held = elim (cases_Bool (is_at pid window mapping)) [
+with_block_at-same pid window block (mapping ∷ mappings) held = elim (cases_Bool (is_mapping_at pid window mapping)) [
   | inl t ↦ (let first : block_held_at (mapping ∷ mappings) pid window ≡ Some mapping.block = rw t refl in
       let same : mapping.block ≡ block = same_Some mapping.block block (sym first ∙ held) in
       rw (t, ← same) refl)
@@ -70,7 +70,7 @@ with_block_at-same pid window block (mapping ∷ mappings) held = elim (cases_Bo
 -- where an address lies is where its window's block is held
 pub window_found-at : (mappings : List Mapping) (pid used a : ℕ) (place : Option (ℕ × ℕ))
     → place ≡ (if nat_le window_base a && nat_lt (window_of a) used then Some (window_of a, offset_of a) else None)
-    → window_found (windows_of mappings pid used) a ≡ option_map (λ at. block_held_at mappings pid at.0) place
+    → window_at_address (windows_of mappings pid used) a ≡ option_map (λ at. block_held_at mappings pid at.0) place
 window_found-at mappings pid used a place e =
     window_found-of mappings pid used a ∙ rw e (elim (cases_Bool (nat_le window_base a && nat_lt (window_of a) used)) [
       | inl t ↦ rw t refl
@@ -106,14 +106,14 @@ windows_of-set mappings pid used k block was h held =
 windows-set : (pid k : ℕ) (block : Block) (mappings : List Mapping)
     → map place_of (with_block_at pid k block mappings) ≡ map place_of mappings
 windows-set pid k block [] = refl
-windows-set pid k block (mapping ∷ mappings) = elim (cases_Bool (is_at pid k mapping)) [
+windows-set pid k block (mapping ∷ mappings) = elim (cases_Bool (is_mapping_at pid k mapping)) [
   | inl t ↦ rw t refl
   | inr f ↦ rw f (ap (λ ws. place_of mapping ∷ ws) (windows-set pid k block mappings))
 ]
 
 others-set : (pid k : ℕ) (block : Block) (mappings : List Mapping) → without_process pid (with_block_at pid k block mappings) ≡ without_process pid mappings
 others-set pid k block [] = refl
-others-set pid k block (mapping ∷ mappings) = elim (cases_Bool (is_at pid k mapping)) [
+others-set pid k block (mapping ∷ mappings) = elim (cases_Bool (is_mapping_at pid k mapping)) [
   | inl t ↦ (let own : mapping.pid == pid ≡ true = grind (arith, nat_tests) in rw (t, own) refl)
   | inr f ↦ rw f (elim (cases_Bool (mapping.pid == pid)) [
     | inl own ↦ rw own (others-set pid k block mappings)
@@ -143,12 +143,12 @@ place-tells used a w o e = elim (cases_Bool (nat_le window_base a)) [
 
 -- a store into the block that a window holds
 module _ (held : MappingTable) (pid used a size n w : ℕ) (was left : Block) (at : w ≡ window_of a) (within : w < used) (here : block_held_at held.mappings pid w ≡ Some was) where
-  found : window_found (windows_of held.mappings pid used) a ≡ Some (block_held_at held.mappings pid w) → block_left (window_found (windows_of held.mappings pid used) a) a size n ≡ block_left (Some (Some was)) a size n
-  found e = ap (λ window. block_left window a size n) (e ∙ ap Some here)
+  found : window_at_address (windows_of held.mappings pid used) a ≡ Some (block_held_at held.mappings pid w) → stored_block (window_at_address (windows_of held.mappings pid used) a) a size n ≡ stored_block (Some (Some was)) a size n
+  found e = ap (λ window. stored_block window a size n) (e ∙ ap Some here)
 
-  pub store-done : (r : Result (Unit {0}) Stop) → window_found (windows_of held.mappings pid used) a ≡ Some (block_held_at held.mappings pid w)
-      → OnOk r (block_left (Some (Some was)) a size n ≡ Ok left)
-      → OnOk r (windows_left (windows_of held.mappings pid used) a size n ≡ Ok (windows_of (with_block_at pid w left held.mappings) pid used))
+  pub store-done : (r : Result (Unit {0}) Stop) → window_at_address (windows_of held.mappings pid used) a ≡ Some (block_held_at held.mappings pid w)
+      → OnOk r (stored_block (Some (Some was)) a size n ≡ Ok left)
+      → OnOk r (stored_windows (windows_of held.mappings pid used) a size n ≡ Ok (windows_of (with_block_at pid w left held.mappings) pid used))
   store-done (Err cause) e stored = tt
   store-done (Ok done) e stored =
       ap (result_map (λ block. set (windows_of held.mappings pid used) (window_of a) (Some block))) (found e ∙ stored)

@@ -10,10 +10,10 @@ use Rattle.rv_model.specs.Private.{is_private}
 use Rattle.rv_model.specs.Exec.{Outcome, next_state, call_state, stop_state, exec}
 use Rattle.ce_model.specs.Limits.{window_base, window_base_lem}
 use Rattle.ce_model.specs.Blocks.{Block}
-use Rattle.ce_model.specs.Space.{Space, AccessSite, in_private, in_block, access_site, site_in, window_of, offset_of, loaded_at, stored_at, number_in, with_number_in, result_map, process_access}
+use Rattle.ce_model.specs.Space.{Space, AccessSite, private_site, block_site, access_site, site_in, window_of, offset_of, load_result, store_result, number_in, with_number_in, result_map, process_access}
 use Rattle.ce_model.specs.Process.{Process, TurnEnd, end_after, moved_process, turn_end}
 use Rattle.rk_process.specs.Windows.{is_within_block}
-use Rattle.rk_process.specs.Lives.{LifeEvent, run, answer, mapping, unmapping, end, process_of_end, after_event, after_moments, IsWindowGone}
+use Rattle.rk_process.specs.Lives.{LifeEvent, run, answer, mapping, unmapping, end, process_of_end, process_after_event, process_after_events, IsWindowGone}
 use Rattle.rk_process.proofs.Keeping.{IsLeftWith, exec-leaves}
 use Rattle.rk_process.proofs.Reaching.{reached_by, reached_spent}
 
@@ -43,23 +43,23 @@ get-emptied (suc k) (w ∷ ws) h = get-emptied k ws h
 
 -- an access is made in the block that its window holds
 module _ (space : Space) (a size j o : ℕ) (block : Block) where
-  found : (window : Option (Option Block)) → site_in window a size ≡ Ok (in_block j block o) → (j ≡ window_of a) × (window ≡ Some (Some block))
+  found : (window : Option (Option Block)) → site_in window a size ≡ Ok (block_site j block o) → (j ≡ window_of a) × (window ≡ Some (Some block))
   found None e = absurd (cc)
   found (Some None) e = absurd (cc)
   found (Some (Some other)) e = elim (cases_Bool (is_within_block other a size)) [
-    | inl t ↦ (let one : ◌≡◌ {A = Result AccessSite Stop} (Ok (in_block (window_of a) other (offset_of a))) (Ok (in_block j block o)) = (rw t refl) ∙ e in (cc, cc))
-    | inr f ↦ absurd (let bad : ◌≡◌ {A = Result AccessSite Stop} (Err (PastEnd a)) (Ok (in_block j block o)) = (rw f refl) ∙ e in cc)
+    | inl t ↦ (let one : ◌≡◌ {A = Result AccessSite Stop} (Ok (block_site (window_of a) other (offset_of a))) (Ok (block_site j block o)) = (rw t refl) ∙ e in (cc, cc))
+    | inr f ↦ absurd (let bad : ◌≡◌ {A = Result AccessSite Stop} (Err (PastEnd a)) (Ok (block_site j block o)) = (rw f refl) ∙ e in cc)
   ]
 
-  spot-block : access_site space a size ≡ Ok (in_block j block o) → slice_get space.windows j ≡ Some (Some block)
+  spot-block : access_site space a size ≡ Ok (block_site j block o) → slice_get space.windows j ≡ Some (Some block)
   unfolding access_site
   spot-block e = elim (cases_Bool (a % size == 0)) [
-    | inr f ↦ absurd (let bad : ◌≡◌ {A = Result AccessSite Stop} (Err (Misaligned a)) (Ok (in_block j block o)) = (rw f refl) ∙ e in cc)
+    | inr f ↦ absurd (let bad : ◌≡◌ {A = Result AccessSite Stop} (Err (Misaligned a)) (Ok (block_site j block o)) = (rw f refl) ∙ e in cc)
     | inl t ↦ elim (cases_Bool (is_private a)) [
-      | inl p ↦ absurd (let bad : ◌≡◌ {A = Result AccessSite Stop} (Ok (in_private (a - PRIVATE_START))) (Ok (in_block j block o)) = (rw (t, p) refl) ∙ e in cc)
+      | inl p ↦ absurd (let bad : ◌≡◌ {A = Result AccessSite Stop} (Ok (private_site (a - PRIVATE_START))) (Ok (block_site j block o)) = (rw (t, p) refl) ∙ e in cc)
       | inr q ↦ elim (cases_Bool (nat_lt a window_base)) [
-        | inl b ↦ absurd (let bad : ◌≡◌ {A = Result AccessSite Stop} (Err (Unmapped a)) (Ok (in_block j block o)) = (rw (t, q, b) refl) ∙ e in cc)
-        | inr c ↦ (let there : site_in (slice_get space.windows (window_of a)) a size ≡ Ok (in_block j block o) = (rw (t, q, c) refl) ∙ e in
+        | inl b ↦ absurd (let bad : ◌≡◌ {A = Result AccessSite Stop} (Err (Unmapped a)) (Ok (block_site j block o)) = (rw (t, q, b) refl) ∙ e in cc)
+        | inr c ↦ (let there : site_in (slice_get space.windows (window_of a)) a size ≡ Ok (block_site j block o) = (rw (t, q, c) refl) ∙ e in
             let is = found (slice_get space.windows (window_of a)) there in ap (slice_get space.windows) is.0 ∙ is.1)
       ]
     ]
@@ -68,9 +68,9 @@ module _ (space : Space) (a size j o : ℕ) (block : Block) where
 -- so a store leaves a window that is gone as it is
 stored-by : (space left : Space) (a size n k : ℕ) (r : Result AccessSite Stop) → access_site space a size ≡ r → result_map (with_number_in space size n) r ≡ Ok left → IsWindowGone k space → IsWindowGone k left
 stored-by space left a size n k (Err cause) e h gone = absurd (cc)
-stored-by space left a size n k (Ok (in_private o)) e h gone =
+stored-by space left a size n k (Ok (private_site o)) e h gone =
     let same : space.windows ≡ left.windows = (let is = same_Ok h in ap (λ s. s.windows) is) in subst (λ (ws : List (Option Block)). slice_get ws k ≡ Some None) same gone
-stored-by space left a size n k (Ok (in_block j block o)) e h gone =
+stored-by space left a size n k (Ok (block_site j block o)) e h gone =
     let held = spot-block space a size j o block e in
     let is = ap (λ s. s.windows) (same_Ok h) in
     subst (λ (ws : List (Option Block)). slice_get ws k ≡ Some None) is
@@ -89,19 +89,19 @@ module _ (k : ℕ) where
   reached-gone : (left : ℕ) (p : Process) → IsWindowGone k p.space → IsWindowGone k (process_of_end (turn_end left p)).space
   reached-gone zero p gone = subst (λ (r : TurnEnd). IsWindowGone k (process_of_end r).space) (sym (reached_spent zero p refl)) gone
   reached-gone (suc left) p gone =
-      subst (λ (r : TurnEnd). IsWindowGone k (process_of_end r).space) (sym (reached_by (suc left) left p (exec process_access p.regs p.pc p.space) refl refl))
-      (led-gone (turn_end left) left p (exec process_access p.regs p.pc p.space) (reached-gone left) gone (exec-gone p.regs p.pc p.space gone))
+      subst (λ (r : TurnEnd). IsWindowGone k (process_of_end r).space) (sym (reached_by (suc left) left p (exec process_access p.registers p.pc p.space) refl refl))
+      (led-gone (turn_end left) left p (exec process_access p.registers p.pc p.space) (reached-gone left) gone (exec-gone p.registers p.pc p.space gone))
 
-  moment-gone : (p : Process) (moment : LifeEvent) → IsWindowGone k p.space → IsWindowGone k (after_event p moment).space
+  moment-gone : (p : Process) (moment : LifeEvent) → IsWindowGone k p.space → IsWindowGone k (process_after_event p moment).space
   moment-gone p (run left) gone = reached-gone left p gone
   moment-gone p (answer value) gone = gone
   moment-gone p (mapping block) gone = get-append k p.space.windows _ gone
   moment-gone p (unmapping j) gone = get-set k j p.space.windows None gone (λ same. refl)
   moment-gone p (end cause) gone = get-emptied k p.space.windows gone
 
-  moments-gone : (p : Process) (moments : List LifeEvent) → IsWindowGone k p.space → IsWindowGone k (after_moments p moments).space
+  moments-gone : (p : Process) (moments : List LifeEvent) → IsWindowGone k p.space → IsWindowGone k (process_after_events p moments).space
   moments-gone p [] gone = gone
-  moments-gone p (moment ∷ moments) gone = moments-gone (after_event p moment) moments (moment-gone p moment gone)
+  moments-gone p (moment ∷ moments) gone = moments-gone (process_after_event p moment) moments (moment-gone p moment gone)
 
 -- and every access at a multiple of its size there is refused as gone
 spot-gone : (space : Space) (a size : ℕ) → IsWindowGone (window_of a) space → window_base ≤ a → a % size ≡ 0 → access_site space a size ≡ Err (Gone a)
@@ -114,8 +114,8 @@ spot-gone space a size gone above aligned =
     rw (t, q, c, gone) refl
 
 pub stays-gone : (p : Process) (moments : List LifeEvent) (a size n : ℕ) → IsWindowGone (window_of a) p.space → window_base ≤ a → a % size ≡ 0
-    → (loaded_at (after_moments p moments).space a size ≡ Err (Gone a)) × (stored_at (after_moments p moments).space a size n ≡ Err (Gone a))
+    → (load_result (process_after_events p moments).space a size ≡ Err (Gone a)) × (store_result (process_after_events p moments).space a size n ≡ Err (Gone a))
 stays-gone p moments a size n gone above aligned =
-    let space = (after_moments p moments).space in
+    let space = (process_after_events p moments).space in
     let refused = spot-gone space a size (moments-gone (window_of a) p moments gone) above aligned in
     (ap (result_map (number_in space size)) refused, ap (result_map (with_number_in space size n)) refused)

@@ -5,7 +5,7 @@ use Rattle.std.proofs.lemmas.Bool.{cases_Bool}
 use Rattle.rv_model.specs.declared.stop.Stop.{Stop}
 use Rattle.rv_model.specs.declared.inst.Inst.{Inst}
 use Rattle.rv_model.specs.declared.inst.Inst.TheVariants.{Lui, Auipc, Jal, Jalr, Branch, Load, Store, OpImm, Op, Fence, Ecall, Ebreak}
-use Rattle.rv_model.specs.Exec.{Access, Outcome, next_state, call_state, stop_state, ◌>>=◌, effect_of, jump_outcome, exec, is_taken, reg, with_reg, next_pc, offset_by, load_size, store_size, loaded_number}
+use Rattle.rv_model.specs.Exec.{Access, Outcome, next_state, call_state, stop_state, ◌>>=◌, effect_of, jump_outcome, exec, is_taken, register_value, with_register, next_pc, offset_by, load_size, store_size, loaded_number}
 use Rattle.rv_model.specs.Words.{dec}
 use Rattle.rv_model.specs.declared.stop.Stop.TheVariants.{Illegal}
 
@@ -32,15 +32,15 @@ module _ {M : Type 0} (A : Access M) (P : M → Type 0) (stores : (m left : M) (
   performed-leaves (Auipc rd imm) x pc m p = p
   performed-leaves (Jal rd offset) x pc m p = jumped-leaves pc _ _ m p
   performed-leaves (Jalr rd rs1 imm) x pc m p = jumped-leaves pc _ _ m p
-  performed-leaves (Branch op rs1 rs2 offset) x pc m p = elim (cases_Bool (is_taken op (reg x rs1) (reg x rs2))) [
+  performed-leaves (Branch op rs1 rs2 offset) x pc m p = elim (cases_Bool (is_taken op (register_value x rs1) (register_value x rs2))) [
     | inl t ↦ rw t (jumped-leaves pc _ x m p)
     | inr f ↦ rw f p
   ]
   performed-leaves (Load op rd rs1 imm) x pc m p =
-      after (A.load m (offset_by (reg x rs1) imm) (load_size op)) (λ n. next_state (with_reg x rd (loaded_number op n)) (next_pc pc) m) (λ n e. p)
+      after (A.load m (offset_by (register_value x rs1) imm) (load_size op)) (λ n. next_state (with_register x rd (loaded_number op n)) (next_pc pc) m) (λ n e. p)
   performed-leaves (Store op rs1 rs2 imm) x pc m p =
-      let a = offset_by (reg x rs1) imm in
-      let n = reg x rs2 % 256 ^ store_size op in
+      let a = offset_by (register_value x rs1) imm in
+      let n = register_value x rs2 % 256 ^ store_size op in
       after (A.store m a (store_size op) n) (λ left. next_state x (next_pc pc) left) (λ left e. stores m left a (store_size op) n e p)
   performed-leaves (OpImm op rd rs1 imm) x pc m p = p
   performed-leaves (Op op rd rs1 rs2) x pc m p = p

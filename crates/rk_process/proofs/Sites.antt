@@ -8,15 +8,15 @@ use Rattle.rv_model.specs.LittleEndian.{number_at, with_number_at}
 use Rattle.rv_model.specs.Private.{is_private, checked_access}
 use Rattle.ce_model.specs.Limits.{window_base}
 use Rattle.ce_model.specs.Blocks.{Block}
-use Rattle.ce_model.specs.Space.{Space, in_private, access_site, site_in, number_in, with_number_in, result_map, loaded_at, stored_at}
-use Rattle.rk_process.specs.Windows.{is_within_block, number_found, window_found, windows_left}
+use Rattle.ce_model.specs.Space.{Space, private_site, access_site, site_in, number_in, with_number_in, result_map, load_result, store_result}
+use Rattle.rk_process.specs.Windows.{is_within_block, number_in_window, window_at_address, stored_windows}
 
 module _ (space : Space) (a size : ℕ) where
-  spot-private : (a % size == 0) ≡ true → is_private a ≡ true → access_site space a size ≡ Ok (in_private (a - PRIVATE_START))
+  spot-private : (a % size == 0) ≡ true → is_private a ≡ true → access_site space a size ≡ Ok (private_site (a - PRIVATE_START))
   unfolding access_site
   spot-private aligned private = rw (aligned, private) refl
 
-  spot-window : (a % size == 0) ≡ true → is_private a ≡ false → access_site space a size ≡ site_in (window_found space.windows a) a size
+  spot-window : (a % size == 0) ≡ true → is_private a ≡ false → access_site space a size ≡ site_in (window_at_address space.windows a) a size
   unfolding access_site
   spot-window aligned elsewhere = rw (aligned, elsewhere) (elim (cases_Bool (nat_lt a window_base)) [
     | inl t ↦ rw t refl
@@ -27,7 +27,7 @@ module _ (space : Space) (a size : ℕ) where
   unfolding access_site
   spot-misaligned f = rw f refl
 
-  number-spot : (window : Option (Option Block)) → number_found window a size ≡ result_map (number_in space size) (site_in window a size)
+  number-spot : (window : Option (Option Block)) → number_in_window window a size ≡ result_map (number_in space size) (site_in window a size)
   number-spot None = refl
   number-spot (Some None) = refl
   number-spot (Some (Some block)) = elim (cases_Bool (is_within_block block a size)) [
@@ -35,8 +35,8 @@ module _ (space : Space) (a size : ℕ) where
     | inr f ↦ rw f refl
   ]
 
-  left-spot : (n : ℕ) (window : Option (Option Block)) → window ≡ window_found space.windows a
-      → result_map (λ windows. record space { windows = windows }) (windows_left space.windows a size n) ≡ result_map (with_number_in space size n) (site_in window a size)
+  left-spot : (n : ℕ) (window : Option (Option Block)) → window ≡ window_at_address space.windows a
+      → result_map (λ windows. record space { windows = windows }) (stored_windows space.windows a size n) ≡ result_map (with_number_in space size n) (site_in window a size)
   left-spot n None e = rw (← e) refl
   left-spot n (Some None) e = rw (← e) refl
   left-spot n (Some (Some block)) e = rw (← e) (elim (cases_Bool (is_within_block block a size)) [
@@ -65,52 +65,54 @@ module _ (space : Space) (a size : ℕ) where
     refused-misaligned cause f e =
         let same : ◌≡◌ {A = Result X Stop} (Err (Misaligned a)) (Err cause) = rw f refl ∙ e in cc
 
-  -- a load is made in private memory, or else where its window says; one that isn't at a multiple of its size is refused
-  pub loaded-private : (n : ℕ) → checked_access a size (λ offset. number_at space.private offset size) ≡ Ok n → Ok n ≡ loaded_at space a size
+  -- a load is made in private memory, or else where its window says; one that isn't at a multiple
+  -- of its size is refused
+  pub loaded-private : (n : ℕ) → checked_access a size (λ offset. number_at space.private offset size) ≡ Ok n → Ok n ≡ load_result space a size
   loaded-private n e =
       let is = made-private (λ offset. number_at space.private offset size) n e in
       ap Ok is.2 ∙ ap (result_map (number_in space size)) (sym (spot-private is.0 is.1))
 
   loaded-window : (cause : Stop) → (a % size == 0) ≡ true → checked_access a size (λ offset. number_at space.private offset size) ≡ Err cause
-      → number_found (window_found space.windows a) a size ≡ loaded_at space a size
+      → number_in_window (window_at_address space.windows a) a size ≡ load_result space a size
   loaded-window cause t e =
-      number-spot (window_found space.windows a)
+      number-spot (window_at_address space.windows a)
       ∙ ap (result_map (number_in space size)) (sym (spot-window t (refused-elsewhere (λ offset. number_at space.private offset size) cause t e)))
 
   loaded-misaligned : (cause : Stop) → (a % size == 0) ≡ false → checked_access a size (λ offset. number_at space.private offset size) ≡ Err cause
-      → Err cause ≡ loaded_at space a size
+      → Err cause ≡ load_result space a size
   loaded-misaligned cause f e =
       ap Err (refused-misaligned (λ offset. number_at space.private offset size) cause f e) ∙ ap (result_map (number_in space size)) (sym (spot-misaligned f))
 
   -- so is a store
   pub stored-private : (n : ℕ) (private : List ℕ) → checked_access a size (λ offset. with_number_at space.private offset size n) ≡ Ok private
-      → stored_at space a size n ≡ Ok (record space { private = private })
+      → store_result space a size n ≡ Ok (record space { private = private })
   stored-private n private e =
       let is = made-private (λ offset. with_number_at space.private offset size n) private e in
       ap (result_map (with_number_in space size n)) (spot-private is.0 is.1) ∙ ap (λ bytes. Ok (record space { private = bytes })) (sym is.2)
 
   stored-window : (n : ℕ) (cause : Stop) → (a % size == 0) ≡ true → checked_access a size (λ offset. with_number_at space.private offset size n) ≡ Err cause
-      → stored_at space a size n ≡ result_map (λ windows. record space { windows = windows }) (windows_left space.windows a size n)
+      → store_result space a size n ≡ result_map (λ windows. record space { windows = windows }) (stored_windows space.windows a size n)
   stored-window n cause t e =
       ap (result_map (with_number_in space size n)) (spot-window t (refused-elsewhere (λ offset. with_number_at space.private offset size n) cause t e))
-      ∙ sym (left-spot n (window_found space.windows a) refl)
+      ∙ sym (left-spot n (window_at_address space.windows a) refl)
 
   stored-misaligned : (n : ℕ) (cause : Stop) → (a % size == 0) ≡ false → checked_access a size (λ offset. with_number_at space.private offset size n) ≡ Err cause
-      → stored_at space a size n ≡ Err cause
+      → store_result space a size n ≡ Err cause
   stored-misaligned n cause f e =
       ap (result_map (with_number_in space size n)) (spot-misaligned f) ∙ ap Err (sym (refused-misaligned (λ offset. with_number_at space.private offset size n) cause f e))
 
--- a load or a store that private memory refused is made where its window says, if it is at a multiple of its size
+-- a load or a store that private memory refused is made where its window says, if it is at a
+-- multiple of its size
 module _ (space : Space) (a size : ℕ) (cause : Stop) where
   pub loaded-elsewhere : checked_access a size (λ offset. number_at space.private offset size) ≡ Err cause
-      → (if a % size == 0 then number_found (window_found space.windows a) a size else Err cause) ≡ loaded_at space a size
+      → (if a % size == 0 then number_in_window (window_at_address space.windows a) a size else Err cause) ≡ load_result space a size
   loaded-elsewhere e = elim (cases_Bool (a % size == 0)) [
     | inl t ↦ rw t (loaded-window space a size cause t e)
     | inr f ↦ rw f (loaded-misaligned space a size cause f e)
   ]
 
   pub stored-elsewhere : (n : ℕ) → checked_access a size (λ offset. with_number_at space.private offset size n) ≡ Err cause
-      → stored_at space a size n ≡ result_map (λ windows. record space { windows = windows }) (if a % size == 0 then windows_left space.windows a size n else Err cause)
+      → store_result space a size n ≡ result_map (λ windows. record space { windows = windows }) (if a % size == 0 then stored_windows space.windows a size n else Err cause)
   stored-elsewhere n e = elim (cases_Bool (a % size == 0)) [
     | inl t ↦ rw t (stored-window space a size n cause t e)
     | inr f ↦ rw f (stored-misaligned space a size n cause f e)

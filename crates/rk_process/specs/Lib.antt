@@ -1,5 +1,5 @@
 pub mod Lives
 pub mod Memories
 pub mod Runs
-pub mod Seen
+pub mod OwnStates
 pub mod Windows

@@ -1,4 +1,5 @@
-//! A process: its registers, its private memory and its windows, and its run from one kernel call to the next.
+//! A process: its registers, its private memory and its windows, and its run from one kernel call
+//! to the next.
 #![tactic(auto)]
 
 mod law;

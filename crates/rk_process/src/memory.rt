@@ -1,9 +1,9 @@
 ghost use Rattle.std.specs.Prelude.{◌≡◌, ◌<◌, ◌+◌, ◌^◌, ◌%◌, ◌==◌, ◌&&◌, length, nat_lt, nat_le, if◌then◌else◌, IfOk, OnOk, IfErr, OnErr, Some, None, Ok, Err, List, ℕ, option_map};
 ghost use Rattle.ce_model.specs.Limits.{window_base};
-ghost use Rattle.ce_model.specs.Space.{window_of, offset_of, loaded_at, stored_at, process_access};
+ghost use Rattle.ce_model.specs.Space.{window_of, offset_of, load_result, store_result, process_access};
 ghost use Rattle.xm_owner.specs.Holdings.{Mapping, block_held_at};
-ghost use Rattle.rk_process.specs.Seen.{windows_of, space_of, rest_of};
-ghost use Rattle.rk_process.specs.Windows.{number_found, block_left, window_found, windows_left};
+ghost use Rattle.rk_process.specs.OwnStates.{windows_of, space_of, rest_of};
+ghost use Rattle.rk_process.specs.Windows.{number_in_window, stored_block, window_at_address, stored_windows};
 
 use ce_model::{WINDOW_BASE, WINDOW_SIZE};
 use rv_model::{AccessSize, Stop};
@@ -20,11 +20,11 @@ pub(crate) struct Windows {
 
 /// The window of an address, and the offset in it, where it is one that was used.
 #[tactic(auto, unfolding(ce_model::specs::Limits::window_base, ce_model::specs::Limits::window_size))]
-fn used_window(addr: u32, used_count: u32) -> Option<(u32, u32)>
-    ensures { result ≡ (if nat_le window_base addr && nat_lt (window_of addr) used_count
-        then Some (window_of addr, offset_of addr) else None) }
+fn used_window(address: u32, used_count: u32) -> Option<(u32, u32)>
+    ensures { result ≡ (if nat_le window_base address && nat_lt (window_of address) used_count
+        then Some (window_of address, offset_of address) else None) }
 {
-    let from_base = addr.checked_sub(WINDOW_BASE)?;
+    let from_base = address.checked_sub(WINDOW_BASE)?;
     let window = from_base / WINDOW_SIZE;
     if window < used_count {
         Some((window, from_base % WINDOW_SIZE))
@@ -34,14 +34,14 @@ fn used_window(addr: u32, used_count: u32) -> Option<(u32, u32)>
 }
 
 /// The same, with what it tells of the blocks that a process holds.
-fn window_at(addr: u32, used_count: u32) -> Option<(u32, u32)>
-    ensures place { result ≡ (if nat_le window_base addr && nat_lt (window_of addr) used_count
-        then Some (window_of addr, offset_of addr) else None) }
+fn window_at(address: u32, used_count: u32) -> Option<(u32, u32)>
+    ensures place { result ≡ (if nat_le window_base address && nat_lt (window_of address) used_count
+        then Some (window_of address, offset_of address) else None) }
     ensures found { (mappings : List Mapping) (pid : ℕ)
-        → window_found (windows_of mappings pid used_count) addr
+        → window_at_address (windows_of mappings pid used_count) address
         ≡ option_map (λ place. block_held_at mappings pid place.0) result }
 {
-    used_window(addr, used_count)
+    used_window(address, used_count)
 }
 
 /// Whether `size` bytes from `offset` on lie within the block.
@@ -55,20 +55,21 @@ fn is_within_block(block: &Block, offset: u32, size: AccessSize) -> bool
 fn load_in_window(
     held_blocks: &HeldBlocks,
     windows: Windows,
-    addr: u32,
+    address: u32,
     size: AccessSize,
 ) -> Result<u32, Stop>
-    ensures value { result ≡ number_found
-        (window_found (windows_of held_blocks.now.mappings windows.pid windows.used_count) addr)
-        addr size.bytes }
+    ensures value { result ≡ number_in_window
+        (window_at_address (windows_of held_blocks.now.mappings windows.pid windows.used_count)
+        address)
+        address size.bytes }
     ensures fits { IfOk result (λ n. n < 256 ^ size.bytes) }
 {
-    match window_at(addr, windows.used_count) {
-        None => Err(Stop::Unmapped(addr)),
+    match window_at(address, windows.used_count) {
+        None => Err(Stop::Unmapped(address)),
         Some((window, offset)) => match held_blocks.get(windows.pid, window) {
-            None => Err(Stop::Gone(addr)),
+            None => Err(Stop::Gone(address)),
             Some(block) if is_within_block(block, offset, size) => Ok(block.load(offset, size)),
-            Some(_) => Err(Stop::PastEnd(addr)),
+            Some(_) => Err(Stop::PastEnd(address)),
         },
     }
 }
@@ -76,20 +77,20 @@ fn load_in_window(
 /// Stores a number into the block at an offset, or says why it stops the process.
 fn store_in_block(
     block: &mut Block,
-    addr: u32,
+    address: u32,
     offset: u32,
     size: AccessSize,
     value: u32,
 ) -> Result<(), Stop>
-    requires { offset ≡ offset_of addr }
+    requires { offset ≡ offset_of address }
     ensures stored { OnOk result
-        (block_left (Some (Some block.old)) addr size.bytes value ≡ Ok block.new) }
+        (stored_block (Some (Some block.old)) address size.bytes value ≡ Ok block.new) }
     ensures refused { IfErr result
-        (λ cause. block_left (Some (Some block.old)) addr size.bytes value ≡ Err cause) }
+        (λ cause. stored_block (Some (Some block.old)) address size.bytes value ≡ Err cause) }
     ensures unchanged { OnErr result (block.new ≡ block.old) }
 {
     if !is_within_block(block, offset, size) {
-        return Err(Stop::PastEnd(addr));
+        return Err(Stop::PastEnd(address));
     }
     block.store(offset, size, value);
     Ok(())
@@ -99,49 +100,50 @@ fn store_in_block(
 fn store_in_window(
     held_blocks: &mut HeldBlocks,
     windows: Windows,
-    addr: u32,
+    address: u32,
     size: AccessSize,
     value: u32,
 ) -> Result<(), Stop>
     ensures stored { OnOk result
-        (windows_left (windows_of held_blocks.old.mappings windows.pid windows.used_count)
-        addr size.bytes value
+        (stored_windows (windows_of held_blocks.old.mappings windows.pid windows.used_count)
+        address size.bytes value
         ≡ Ok (windows_of held_blocks.new.mappings windows.pid windows.used_count)) }
     ensures refused { IfErr result (λ cause.
-        windows_left (windows_of held_blocks.old.mappings windows.pid windows.used_count)
-        addr size.bytes value
+        stored_windows (windows_of held_blocks.old.mappings windows.pid windows.used_count)
+        address size.bytes value
         ≡ Err cause) }
     ensures unchanged { OnErr result (held_blocks.new ≡ held_blocks.old) }
     ensures rest { rest_of windows.pid windows.used_count held_blocks.new
         ≡ rest_of windows.pid windows.used_count held_blocks.old }
 {
-    match window_at(addr, windows.used_count) {
-        None => Err(Stop::Unmapped(addr)),
+    match window_at(address, windows.used_count) {
+        None => Err(Stop::Unmapped(address)),
         Some((window, offset)) => match held_blocks.get_mut(windows.pid, window) {
-            None => Err(Stop::Gone(addr)),
-            Some(block) => store_in_block(block, addr, offset, size, value),
+            None => Err(Stop::Gone(address)),
+            Some(block) => store_in_block(block, address, offset, size, value),
         },
     }
 }
 
-/// The number that a load finds which private memory refused for this cause, or why it stops the process.
+/// The number that a load finds which private memory refused for this cause, or why it stops the
+/// process.
 #[inline(never)]
 fn load_elsewhere(
     held_blocks: &HeldBlocks,
     windows: &Windows,
-    addr: u32,
+    address: u32,
     size: AccessSize,
     cause: Stop,
 ) -> Result<u32, Stop>
-    ensures value { result ≡ (if addr % size.bytes == 0
-        then number_found (window_found
-        (windows_of held_blocks.now.mappings windows.now.pid windows.now.used_count) addr)
-        addr size.bytes
+    ensures value { result ≡ (if address % size.bytes == 0
+        then number_in_window (window_at_address
+        (windows_of held_blocks.now.mappings windows.now.pid windows.now.used_count) address)
+        address size.bytes
         else Err cause) }
     ensures fits { IfOk result (λ n. n < 256 ^ size.bytes) }
 {
-    if addr.is_multiple_of(size.bytes) {
-        load_in_window(held_blocks, *windows, addr, size)
+    if address.is_multiple_of(size.bytes) {
+        load_in_window(held_blocks, *windows, address, size)
     } else {
         Err(cause)
     }
@@ -152,53 +154,55 @@ fn load_elsewhere(
 fn store_elsewhere(
     held_blocks: &mut HeldBlocks,
     windows: &Windows,
-    addr: u32,
+    address: u32,
     size: AccessSize,
     value: u32,
     cause: Stop,
 ) -> Result<(), Stop>
-    ensures stored { OnOk result ((if addr % size.bytes == 0
-        then windows_left
+    ensures stored { OnOk result ((if address % size.bytes == 0
+        then stored_windows
         (windows_of held_blocks.old.mappings windows.now.pid windows.now.used_count)
-        addr size.bytes value else Err cause)
+        address size.bytes value else Err cause)
         ≡ Ok (windows_of held_blocks.new.mappings windows.now.pid windows.now.used_count)) }
-    ensures refused { IfErr result (λ because. (if addr % size.bytes == 0
-        then windows_left
+    ensures refused { IfErr result (λ because. (if address % size.bytes == 0
+        then stored_windows
         (windows_of held_blocks.old.mappings windows.now.pid windows.now.used_count)
-        addr size.bytes value else Err cause)
+        address size.bytes value else Err cause)
         ≡ Err because) }
     ensures unchanged { OnErr result (held_blocks.new ≡ held_blocks.old) }
     ensures rest { rest_of windows.now.pid windows.now.used_count held_blocks.new
         ≡ rest_of windows.now.pid windows.now.used_count held_blocks.old }
 {
-    if addr.is_multiple_of(size.bytes) {
-        store_in_window(held_blocks, *windows, addr, size, value)
+    if address.is_multiple_of(size.bytes) {
+        store_in_window(held_blocks, *windows, address, size, value)
     } else {
         Err(cause)
     }
 }
 
-/// The number in the bytes at an address, of which there are `size`, or why the load stops the process.
+/// The number in the bytes at an address, of which there are `size`, or why the load stops the
+/// process.
 #[inline]
 pub(crate) fn load_at(
     private: &PrivateMemory,
     held_blocks: &HeldBlocks,
     windows: &Windows,
-    addr: u32,
+    address: u32,
     size: AccessSize,
 ) -> Result<u32, Stop>
-    ensures value { result ≡ loaded_at
+    ensures value { result ≡ load_result
         (space_of private.now held_blocks.now.mappings windows.now.pid windows.now.used_count)
-        addr size.bytes }
+        address size.bytes }
     ensures fits { IfOk result (λ n. n < 256 ^ size.bytes) }
 {
-    match private.load(addr, size) {
+    match private.load(address, size) {
         Ok(number) => Ok(number),
-        Err(cause) => load_elsewhere(held_blocks, windows, addr, size, cause),
+        Err(cause) => load_elsewhere(held_blocks, windows, address, size, cause),
     }
 }
 
-/// The memory of a process while it runs: its private bytes, and its node's blocks with its windows among them.
+/// The memory of a process while it runs: its private bytes, and its node's blocks with its windows
+/// among them.
 #[derive(Drop)]
 pub(crate) struct ProcessMemory {
     pub private: PrivateMemory,
@@ -208,7 +212,7 @@ pub(crate) struct ProcessMemory {
 
 impl Memory for ProcessMemory {
     ghost use Rattle.ce_model.specs.Space.{Space, process_access};
-    ghost use Rattle.rk_process.specs.Seen.{ProcessRest, space_of, rest_of};
+    ghost use Rattle.rk_process.specs.OwnStates.{ProcessRest, space_of, rest_of};
 
     ghost Space = { Space };
 
@@ -228,19 +232,25 @@ impl Memory for ProcessMemory {
     }
 
     #[inline]
-    fn load(&self, addr: u32, size: AccessSize) -> Result<u32, Stop> {
-        load_at(&self.private, &self.held_blocks, &self.windows, addr, size)
+    fn load(&self, address: u32, size: AccessSize) -> Result<u32, Stop> {
+        load_at(
+            &self.private,
+            &self.held_blocks,
+            &self.windows,
+            address,
+            size,
+        )
     }
 
     #[inline]
-    fn store(&mut self, addr: u32, size: AccessSize, value: u32) -> Result<(), Stop> {
-        match self.private.store(addr, size, value) {
+    fn store(&mut self, address: u32, size: AccessSize, value: u32) -> Result<(), Stop> {
+        match self.private.store(address, size, value) {
             Ok(()) => Ok(()),
             Err(cause) => {
                 store_elsewhere(
                     &mut self.held_blocks,
                     &self.windows,
-                    addr,
+                    address,
                     size,
                     value,
                     cause,

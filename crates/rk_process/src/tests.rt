@@ -132,10 +132,10 @@ fn sizes(rt: HostRuntime) -> Result<(), Fail> {
     full.reset(4096);
     held_blocks.map(0, process.give_window(), full);
     held_blocks.map(0, process.give_window(), block(rt.alloc(), 1)?);
-    let mut left = 10;
-    let pause = process.run_to_call(0, &mut held_blocks, &mut left);
+    let mut instructions_left = 10;
+    let pause = process.run_to_call(0, &mut held_blocks, &mut instructions_left);
     assert_eq!(rt; pause, Pause::Stopped(Stop::PastEnd(0x8001_0000)));
-    assert_eq!(rt; left, 6);
+    assert_eq!(rt; instructions_left, 6);
     assert_eq!(rt;
         process.load_word(0, &held_blocks, 0x8000_0FFC),
         Ok(0x0003_0000)
@@ -155,10 +155,10 @@ fn run_to_a_call(rt: HostRuntime) -> Result<(), Fail> {
     process.start(&image(rt.alloc(), &[0x02A0_0513, 0x00E0_0893, 0x0000_0073])?);
     assert_eq!(rt; process.status(), Status::Running);
     assert_eq!(rt; process.register(Register::sp()), 0x0003_0000);
-    let mut left = 10;
-    let pause = process.run_to_call(0, &mut held_blocks, &mut left);
+    let mut instructions_left = 10;
+    let pause = process.run_to_call(0, &mut held_blocks, &mut instructions_left);
     assert_eq!(rt; pause, Pause::Call);
-    assert_eq!(rt; left, 7);
+    assert_eq!(rt; instructions_left, 7);
     assert_eq!(rt; process.register(Register::a0()), 42);
     assert_eq!(rt; process.register(Register { number: A7 }), 14);
     process.answer(7);
@@ -172,15 +172,16 @@ fn run_to_a_call(rt: HostRuntime) -> Result<(), Fail> {
     Ok(())
 }
 
-// lui t0, 0x10; sw sp, 64(t0); ecall. What the process wrote is gone once it is reset and starts anew.
+// lui t0, 0x10; sw sp, 64(t0); ecall. What the process wrote is gone once it is reset and starts
+// anew.
 #[test]
 fn memory_starts_anew(rt: HostRuntime) -> Result<(), Fail> {
     let mut held_blocks = HeldBlocks::new(rt.alloc(), 0)?;
     let mut process = Process::new(rt.alloc())?;
     process.start(&image(rt.alloc(), &[0x0001_02B7, 0x0422_A023, 0x0000_0073])?);
-    let mut left = 10;
+    let mut instructions_left = 10;
     assert_eq!(rt;
-        process.run_to_call(0, &mut held_blocks, &mut left),
+        process.run_to_call(0, &mut held_blocks, &mut instructions_left),
         Pause::Call
     );
     assert_eq!(rt;
@@ -201,11 +202,11 @@ fn turn_spent(rt: HostRuntime) -> Result<(), Fail> {
     let mut held_blocks = HeldBlocks::new(rt.alloc(), 0)?;
     let mut process = Process::new(rt.alloc())?;
     process.start(&image(rt.alloc(), &[0x0000_006F])?);
-    let mut left = 3;
-    let pause = process.run_to_call(0, &mut held_blocks, &mut left);
+    let mut instructions_left = 3;
+    let pause = process.run_to_call(0, &mut held_blocks, &mut instructions_left);
     assert_eq!(rt; pause, Pause::Stopped(Stop::TurnSpent));
-    assert_eq!(rt; left, 0);
-    let again = process.run_to_call(0, &mut held_blocks, &mut left);
+    assert_eq!(rt; instructions_left, 0);
+    let again = process.run_to_call(0, &mut held_blocks, &mut instructions_left);
     assert_eq!(rt; again, Pause::Stopped(Stop::TurnSpent));
     Ok(())
 }
@@ -222,7 +223,8 @@ fn fill(alloc: Global, store: &mut Store) -> Result<(), Fail>
     Ok(())
 }
 
-// What the kernel does for a process that asks for a block of this length: the least block of the store at its next window.
+// What the kernel does for a process that asks for a block of this length: the least block of the
+// store at its next window.
 #[tactic(auto, unfolding(ce_model::specs::Limits::window_count))]
 fn allocate(
     process: &mut Process,

@@ -6,9 +6,10 @@ pub const WAIT: &str = "\
         li a7, 7\n\
         ecall\n";
 
-/// For a machine of one node with two images: starts the first image as process 1 twice, and asks for an image and for a node
-/// that aren't there; kills process 1 twice, one that wasn't started, and one at a node that isn't there; and sends a block to
-/// a place that is none, and then to the host. It notes each answer, and exits with 9.
+/// For a machine of one node with two images: starts the first image as process 1 twice, and asks
+/// for an image and for a node that aren't there; kills process 1 twice, one that wasn't started,
+/// and one at a node that isn't there; and sends a block to a place that is none, and then to the
+/// host. It notes each answer, and exits with 9.
 pub const REQUESTS: &str = "\
         li a0, 0\n\
         li a1, 0\n\
@@ -91,8 +92,8 @@ pub const GONE_BLOCK: &str = "\
         ecall\n\
         lw t1, 0(s0)\n";
 
-/// Asks for the greatest block, for one of a byte more and for an empty one, and notes each answer; writes the last word
-/// of the greatest and notes its length, and in the end reads the empty one.
+/// Asks for the greatest block, for one of a byte more and for an empty one, and notes each answer;
+/// writes the last word of the greatest and notes its length, and in the end reads the empty one.
 pub const BLOCK_SIZES: &str = "\
         li a0, 4096\n\
         li a7, 1\n\
@@ -121,8 +122,8 @@ pub const BLOCK_SIZES: &str = "\
         ecall\n\
         lb t0, 0(a0)\n";
 
-/// Takes and frees a block 32,768 times, each at a window of its own; then asks for one more, notes the answer, and waits
-/// for a message.
+/// Takes and frees a block 32,768 times, each at a window of its own; then asks for one more, notes
+/// the answer, and waits for a message.
 pub const ALL_WINDOWS: &str = "\
         li s0, 32768\n\
 loop:   li a0, 4\n\
@@ -140,9 +141,10 @@ loop:   li a0, 4\n\
         li a7, 7\n\
         ecall\n";
 
-/// Has three blocks: sends the first to no place, the second to two places, and the third, in vain, to a place that is none,
-/// to 34 places, to 31 and to 65, and then to 30. It notes each answer, and the third block's length before it leaves; in the
-/// end it asks for the length of the first block, which has left.
+/// Has three blocks: sends the first to no place, the second to two places, and the third, in vain,
+/// to a place that is none, to 34 places, to 31 and to 65, and then to 30. It notes each answer,
+/// and the third block's length before it leaves; in the end it asks for the length of the first
+/// block, which has left.
 pub const MULTICAST: &str = "\
         li a0, 4\n\
         li a7, 1\n\
@@ -210,7 +212,8 @@ same:\n\
         .word 0, 1, 0, 1, 0, 1, 0, 1, 0, 1, 0, 1, 0, 1, 0, 1, 0, 1, 0, 1, 0, 1, 0, 1, 0, 1, 0, 1, 0, 1, 0, 1, 0, 1\n\
         .word 0, 1, 0, 1, 0, 1, 0, 1, 0, 1, 0, 1, 0, 1, 0, 1, 0, 1, 0, 1, 0, 1, 0, 1, 0, 1, 0, 1, 0, 1, 0, 1, 0, 1\n";
 
-/// Sends a block by a list of two places, of which the first is none, and the second lies behind private memory.
+/// Sends a block by a list of two places, of which the first is none, and the second lies behind
+/// private memory.
 pub const UNREADABLE_LIST: &str = "\
         li a0, 4\n\
         li a7, 1\n\

@@ -4,8 +4,8 @@ use Rattle.std.proofs.lemmas.Bool.{both_ways}
 use Rattle.rv_model.specs.Image.{ImageParts}
 use Rattle.ce_model.specs.declared.topology.BlockId.{BlockId}
 use Rattle.ce_model.specs.declared.topology.Place.{Place}
-use Rattle.ce_model.specs.declared.entry.KillFound.{KillFound}
-use Rattle.ce_model.specs.declared.entry.KillFound.TheVariants.{Killed, Unused, Already}
+use Rattle.ce_model.specs.declared.entry.KillResult.{KillResult}
+use Rattle.ce_model.specs.declared.entry.KillResult.TheVariants.{Killed, Unused, Already}
 use Rattle.ce_model.specs.declared.process.Status.{Status}
 use Rattle.ce_model.specs.declared.process.Status.TheVariants.{Unborn, Running, Asking, Polling, Stopped}
 use Rattle.ce_model.specs.Limits.{home_blocks_lem, greatest_blocks, greatest_blocks_lem}
@@ -13,7 +13,7 @@ use Rattle.ce_model.specs.Blocks.{blocks_of_home}
 use Rattle.ce_model.specs.Lists.{without_first}
 use Rattle.ce_model.specs.Parcels.{Item, start, mail, kill, is_eligible}
 use Rattle.ce_model.specs.Process.{is_receiving, is_stopped}
-use Rattle.ce_model.specs.Node.{Node, Call, take_call, spawn_call, kill_call, blocks_of, process_set, take_of}
+use Rattle.ce_model.specs.Node.{Node, Call, take_call, spawn_call, kill_call, blocks_of, process_set, take_call_of}
 use Rattle.ce_model.specs.Sound.{is_unborn}
 use Rattle.ce_solo.proofs.Counting.{hit-self, count, count-nil, count-one}
 use Rattle.ce_solo.proofs.Items.{parcel_ids}
@@ -21,14 +21,14 @@ use Rattle.ce_solo.proofs.Words.{call_ids}
 use Rattle.ce_solo.proofs.HandedOver.{find-passes}
 use Rattle.rk_mail.specs.declared.talk.Hearing.{Hearing}
 use Rattle.rk_mail.specs.declared.talk.Hearing.TheVariants.{Poll, Idle}
-use Rattle.rk_mail.specs.declared.talk.Hearing.TheVariants as hearing
-use Rattle.rk_mail.specs.Talk.{is_of_take, IsAnswerTo, spawn_hearing, kill_hearing}
+use Rattle.rk_mail.specs.declared.talk.Hearing.TheVariants as hearings
+use Rattle.rk_mail.specs.Talk.{is_take_hearing, IsAnswerTo, spawn_hearing, kill_hearing}
 use Rattle.rk_node.specs.Boxes.{Box}
-use Rattle.rk_node.specs.Answering.{IsWork}
+use Rattle.rk_node.specs.Answering.{IsBoxWork}
 use Rattle.xm_block.proofs.HomeBlocks.{length-blocks_of_home}
 use Rattle.rk_node.proofs.Names.{not_contained}
 use Rattle.rk_node.proofs.Sorted.{once-rising, rising-home}
-use Rattle.rk_rows.specs.Lone.{heard_ids, AreAtOnePlace, HasQueued, IsFor, IsAnswerable, IsAnsweredAlone}
+use Rattle.rk_rows.specs.Lone.{hearing_ids, AreAtOnePlace, HasQueued, IsEligibleItem, IsAnswerable, IsAnsweredAlone}
 use Rattle.rk_rows.proofs.Counts.{length-counts, taken-ids}
 
 -- ---- processes that were started, and that weren't
@@ -45,13 +45,13 @@ born-is status born e = absurd (both_ways (is_unborn status) born (ap is_unborn 
 
 -- ---- what a Take says
 
-taken-asking : (asking dead : ℕ) (poller : Option ℕ) (node : Node) → take_call asking dead poller ≡ take_of node → asking ≡ process_set is_receiving node.processes
+taken-asking : (asking dead : ℕ) (poller : Option ℕ) (node : Node) → take_call asking dead poller ≡ take_call_of node → asking ≡ process_set is_receiving node.processes
 taken-asking asking dead poller node e = cc
 
-taken-dead : (asking dead : ℕ) (poller : Option ℕ) (node : Node) → take_call asking dead poller ≡ take_of node → dead ≡ process_set is_stopped node.processes
+taken-dead : (asking dead : ℕ) (poller : Option ℕ) (node : Node) → take_call asking dead poller ≡ take_call_of node → dead ≡ process_set is_stopped node.processes
 taken-dead asking dead poller node e = cc
 
-taken-poller : (asking dead : ℕ) (poller : Option ℕ) (node : Node) → take_call asking dead poller ≡ take_of node → poller ≡ slice_get node.polling_ids 0
+taken-poller : (asking dead : ℕ) (poller : Option ℕ) (node : Node) → take_call asking dead poller ≡ take_call_of node → poller ≡ slice_get node.polling_ids 0
 taken-poller asking dead poller node e = cc
 
 -- ---- blocks
@@ -73,7 +73,7 @@ few-blocks box away items room at =
 
 -- an item that waits and can be given is one for the box
 pub item-for : (box : Box) (asking dead : ℕ) (poller : Option ℕ) (items : List Item) (item : Item) → IsAnswerable box (take_call asking dead poller) items
-    → find (is_eligible asking dead) items ≡ Some item → IsFor box item
+    → find (is_eligible asking dead) items ≡ Some item → IsEligibleItem box item
 item-for box asking dead poller items (start pid image) can found = tt
 item-for box asking dead poller items (kill pid) can found = tt
 item-for box asking dead poller items (mail parcel) can found =
@@ -91,10 +91,10 @@ item-for box asking dead poller items (mail parcel) can found =
 -- ---- answers
 
 -- the item is given
-pub item-answers : (images : List ImageParts) (box : Box) (asking dead : ℕ) (poller : Option ℕ) (items rest : List Item) (item : Item) (heard : Hearing)
+pub item-answers : (images : List ImageParts) (box : Box) (asking dead : ℕ) (poller : Option ℕ) (items rest : List Item) (item : Item) (hearing : Hearing)
     → IsAnswerable box (take_call asking dead poller) items → find (is_eligible asking dead) items ≡ Some item → rest ≡ without_first (is_eligible asking dead) items
-    → IsWork images box heard → IsTrue (is_of_take heard) → heard_ids heard ≡ parcel_ids (item ∷ []) → IsAnsweredAlone images box heard rest
-item-answers images box asking dead poller items rest item heard can found left work take blocks = record {
+    → IsBoxWork images box hearing → IsTrue (is_take_hearing hearing) → hearing_ids hearing ≡ parcel_ids (item ∷ []) → IsAnsweredAlone images box hearing rest
+item-answers images box asking dead poller items rest item hearing can found left work take blocks = record {
   can = record { call = take_call asking dead poller; said = can.said; answer = take; work = work };
   places = record {
     places = λ id. omega (
@@ -123,9 +123,9 @@ idle-answers images box asking dead items can = record {
 }
 
 -- a call that asks for no work is answered, and its blocks wait
-pub call-answers : (images : List ImageParts) (box : Box) (call : Call) (before after : List Item) (heard : Hearing) → IsAnswerable box call before → IsAnswerTo call heard
-    → IsWork images box heard → heard_ids heard ≡ [] → HasQueued (call_ids call) before after → IsAnsweredAlone images box heard after
-call-answers images box call before after heard can answer work none queued = record {
+pub call-answers : (images : List ImageParts) (box : Box) (call : Call) (before after : List Item) (hearing : Hearing) → IsAnswerable box call before → IsAnswerTo call hearing
+    → IsBoxWork images box hearing → hearing_ids hearing ≡ [] → HasQueued (call_ids call) before after → IsAnsweredAlone images box hearing after
+call-answers images box call before after hearing can answer work none queued = record {
   can = record { call = call; said = can.said; answer = answer; work = work };
   places = record { places = λ id. omega (arith, can.places.places id, queued.counts id, ap (count id) none, count-nil id) };
 }
@@ -133,12 +133,12 @@ call-answers images box call before after heard can answer work none queued = re
 -- a spawn is answered by whether the id was never used before
 pub spawn-answers : (images : List ImageParts) (box : Box) (pid image : ℕ) (to : Place) (before after : List Item) (fresh : Bool) → IsAnswerable box (spawn_call pid image to) before
     → HasQueued [] before after → IsAnsweredAlone images box (spawn_hearing fresh) after
-spawn-answers images box pid image to before after true can queued = call-answers images box (spawn_call pid image to) before after hearing.Spawned can (inl refl) tt refl queued
-spawn-answers images box pid image to before after false can queued = call-answers images box (spawn_call pid image to) before after hearing.Used can (inr refl) tt refl queued
+spawn-answers images box pid image to before after true can queued = call-answers images box (spawn_call pid image to) before after hearings.Spawned can (inl refl) tt refl queued
+spawn-answers images box pid image to before after false can queued = call-answers images box (spawn_call pid image to) before after hearings.Used can (inr refl) tt refl queued
 
 -- a kill is answered by what it found
-pub kill-answers : (images : List ImageParts) (box : Box) (pid : ℕ) (to : Place) (before after : List Item) (found : KillFound) → IsAnswerable box (kill_call pid to) before
+pub kill-answers : (images : List ImageParts) (box : Box) (pid : ℕ) (to : Place) (before after : List Item) (found : KillResult) → IsAnswerable box (kill_call pid to) before
     → HasQueued [] before after → IsAnsweredAlone images box (kill_hearing found) after
-kill-answers images box pid to before after Killed can queued = call-answers images box (kill_call pid to) before after hearing.Killed can (inl refl) tt refl queued
-kill-answers images box pid to before after Unused can queued = call-answers images box (kill_call pid to) before after hearing.Unused can (inr (inl refl)) tt refl queued
-kill-answers images box pid to before after Already can queued = call-answers images box (kill_call pid to) before after hearing.Already can (inr (inr refl)) tt refl queued
+kill-answers images box pid to before after Killed can queued = call-answers images box (kill_call pid to) before after hearings.Killed can (inl refl) tt refl queued
+kill-answers images box pid to before after Unused can queued = call-answers images box (kill_call pid to) before after hearings.Unused can (inr (inl refl)) tt refl queued
+kill-answers images box pid to before after Already can queued = call-answers images box (kill_call pid to) before after hearings.Already can (inr (inr refl)) tt refl queued

@@ -18,22 +18,22 @@ use Rattle.rk_mail.specs.declared.talk.Hearing.TheVariants.{Start, Mail, Kill, P
 use Rattle.rk_mail.specs.Queue.{Queue}
 use Rattle.rk_mail.specs.Items.{parcel_of}
 use Rattle.rk_mail.specs.Talk.{hearing_model}
-use Rattle.rk_node.specs.declared.out.Out.TheVariants.{Nothing}
-use Rattle.rk_node.specs.Boxes.{Box, fresh_at}
+use Rattle.rk_node.specs.declared.awaited_call.AwaitedCall.TheVariants.{Nothing}
+use Rattle.rk_node.specs.Boxes.{Box, fresh_node_at}
 use Rattle.rk_node.specs.Answering.{IsAwaitingAnswer, IsAbleToHear}
 use Rattle.rk_node.specs.Withdrawal.{HasTakenOut}
 use Rattle.rk_node.proofs.Answered.{once-come, born_status, polling-receives, take-idle, work-of}
 use Rattle.rk_node.proofs.Polling.{polls-head}
 use Rattle.rk_node.proofs.Sorted.{idle-well, idle-fresh, idle-blocks}
-use Rattle.rk_rows.specs.Lone.{heard_ids, HasQueued, IsAnswerable, IsAnsweredAlone, IsAloneAtRest}
+use Rattle.rk_rows.specs.Lone.{hearing_ids, HasQueued, IsAnswerable, IsAnsweredAlone, IsAloneAtRest}
 
 -- ---- a fresh box
 
-pub fresh-rests : (box : Box) (images : List ImageParts) (queue : Queue) (n : ℕ) → box.node ≡ fresh_at 0 0 0 n → box.out ≡ Nothing → greatest_blocks ≤ box.room
+pub fresh-rests : (box : Box) (images : List ImageParts) (queue : Queue) (n : ℕ) → box.node ≡ fresh_node_at 0 0 0 n → box.awaited_call ≡ Nothing → greatest_blocks ≤ box.room
     → length images ≡ n → queue.items ≡ [] → IsAloneAtRest box images queue
 fresh-rests box images queue n fresh idle room long empty = record {
   idle = idle;
-  well = subst (λ (node : Node). IsWell node.turn node) (sym fresh) (idle-well (fresh_at 0 0 0 n) (idle-fresh 0 0 0 n));
+  well = subst (λ (node : Node). IsWell node.turn node) (sym fresh) (idle-well (fresh_node_at 0 0 0 n) (idle-fresh 0 0 0 n));
   sound = subst (λ (node : Node). IfSome node.turn IsSoundTurn) (sym fresh) tt;
   images = long ∙ sym (ap (λ (node : Node). node.images) fresh);
   room = room;
@@ -41,7 +41,7 @@ fresh-rests box images queue n fresh idle room long empty = record {
     places = λ id. omega (
       arith,
       ap (λ (node : Node). count id (blocks_of node)) fresh,
-      ap (count id) (idle-blocks (fresh_at 0 0 0 n) (idle-fresh 0 0 0 n)),
+      ap (count id) (idle-blocks (fresh_node_at 0 0 0 n) (idle-fresh 0 0 0 n)),
       count-nil id,
       ap (λ items. count id (parcel_ids items)) empty,
     );
@@ -61,7 +61,8 @@ said-answerable before after call images queue rests said room out = record {
 
 -- ---- what was heard
 
--- the node is well, and its turn within its limits; it has as many images, and the block that came is its own
+-- the node is well, and its turn within its limits; it has as many images, and the block that came
+-- is its own
 pub record IsAfter (node node' : Node) (come : List BlockId) : Type 0 where
   pub well : IsWell node'.turn node'
   pub sound : IfSome node'.turn IsSoundTurn
@@ -92,7 +93,7 @@ module _ (images : List ImageParts) (box : Box) (well : IsWell box.node.turn box
   well-idle : box.node.turn ≡ None → IsWell None box.node
   well-idle none = subst (λ turn. IsWell turn box.node) none well
 
-  pub hears-after : (heard : Hearing) → IsAbleToHear images box heard → IsAfter box.node (node_after_hearing images box.node (hearing_model heard)) (heard_ids heard)
+  pub hears-after : (hearing : Hearing) → IsAbleToHear images box hearing → IsAfter box.node (node_after_hearing images box.node (hearing_model hearing)) (hearing_ids hearing)
   hears-after (Start pid image) can =
       let none = take-idle box can.call (Start pid image) can.said can.answer refl in
       let begins = start-begins images box.node pid image (well-idle none) can.work.0 (ap is_unborn can.work.1) in
@@ -118,14 +119,14 @@ module _ (images : List ImageParts) (box : Box) (well : IsWell box.node.turn box
   hears-after Noted can = heard-after box.node _ _ (nothing-hears images box.node well sound)
 
 -- a box that has heard the answer is at rest again
-pub heard-rests : (images : List ImageParts) (before said after : Box) (heard : Hearing) (queue queue' : Queue) → IsAloneAtRest before images queue
-    → said.node ≡ (says before.node).node → said.room ≡ before.room → IsAnsweredAlone images said heard queue'.items
-    → after.node ≡ node_after_hearing images said.node (hearing_model heard) → after.room ≡ said.room → after.out ≡ Nothing → IsAloneAtRest after images queue'
-heard-rests images before said after heard queue queue' rests is room answered heard_is room' idle =
+pub heard-rests : (images : List ImageParts) (before said after : Box) (hearing : Hearing) (queue queue' : Queue) → IsAloneAtRest before images queue
+    → said.node ≡ (says before.node).node → said.room ≡ before.room → IsAnsweredAlone images said hearing queue'.items
+    → after.node ≡ node_after_hearing images said.node (hearing_model hearing) → after.room ≡ said.room → after.awaited_call ≡ Nothing → IsAloneAtRest after images queue'
+heard-rests images before said after hearing queue queue' rests is room answered heard_is room' idle =
     let leaves = (says-said before.node rests.well rests.sound).leaves in
     let well = subst (λ (node : Node). IsWell node.turn node) (sym is) leaves.became.well in
     let sound = subst (λ (node : Node). IfSome node.turn IsSoundTurn) (sym is) leaves.turn in
-    let now = hears-after images said well sound heard answered.can in
+    let now = hears-after images said well sound hearing answered.can in
     record {
       idle = idle;
       well = subst (λ (node : Node). IsWell node.turn node) (sym heard_is) now.well;

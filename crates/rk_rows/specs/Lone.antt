@@ -19,31 +19,34 @@ use Rattle.rk_mail.specs.declared.talk.Hearing.TheVariants.{Mail}
 use Rattle.rk_mail.specs.Queue.{Queue}
 use Rattle.rk_mail.specs.Talk.{hearing_model}
 use Rattle.rk_mail.specs.Targets.{targets_of}
-use Rattle.rk_node.specs.declared.out.Out.TheVariants.{Nothing}
+use Rattle.rk_node.specs.declared.awaited_call.AwaitedCall.TheVariants.{Nothing}
 use Rattle.rk_node.specs.Boxes.{Box}
-use Rattle.rk_node.specs.Answering.{IsAwaitingAnswer, IsForBox, IsAbleToHear}
+use Rattle.rk_node.specs.Answering.{IsAwaitingAnswer, IsEligibleForBox, IsAbleToHear}
 
 -- the names of the blocks of a message
 abbrev pub batch_ids : List (Place × Block) → List BlockId
 batch_ids batch = map (λ (target : Place × BlockId). target.1) (targets_of batch)
 
 -- the names of the blocks that come with an answer
-abbrev pub heard_ids : Hearing → List BlockId
-heard_ids (Mail parcel) = parcel.block.id ∷ []
-heard_ids other = []
+abbrev pub hearing_ids : Hearing → List BlockId
+hearing_ids (Mail parcel) = parcel.block.id ∷ []
+hearing_ids other = []
 
--- each block that the node has, that is away with a call or an answer, or that waits in a parcel, is one of the node's own, at one place
-pub record AreAtOnePlace (node : Node) (away : List BlockId) (items : List Item) : Type 0 where
-  pub places : (id : BlockId) → count id (blocks_of node) + count id away + count id (parcel_ids items) ≤ count id (blocks_of_home 0)
+-- each block that the node has, that is away with a call or an answer, or that waits in a parcel,
+-- is one of the node's own, at one place
+pub record AreAtOnePlace (node : Node) (away_ids : List BlockId) (items : List Item) : Type 0 where
+  pub places : (id : BlockId) → count id (blocks_of node) + count id away_ids
+      + count id (parcel_ids items) ≤ count id (blocks_of_home 0)
 
 -- no more blocks than these wait that didn't wait before
 pub record HasQueued (ids : List BlockId) (before after : List Item) : Type 0 where
-  pub counts : (id : BlockId) → count id (parcel_ids after) ≤ count id (parcel_ids before) + count id ids
+  pub counts : (id : BlockId) → count id (parcel_ids after) ≤ count id (parcel_ids before)
+      + count id ids
 
 -- an item can be given to the box
-abbrev pub IsFor : Box → Item → Type 0
-IsFor box (mail parcel) = IsForBox box parcel
-IsFor box other = Unit {0}
+abbrev pub IsEligibleItem : Box → Item → Type 0
+IsEligibleItem box (mail parcel) = IsEligibleForBox box parcel
+IsEligibleItem box other = Unit {0}
 
 -- the box waits for the answer to a call, while these items wait for it
 pub record IsAnswerable (box : Box) (call : Call) (items : List Item) : Type 0 where
@@ -52,16 +55,17 @@ pub record IsAnswerable (box : Box) (call : Call) (items : List Item) : Type 0 w
   pub places : AreAtOnePlace box.node (call_ids call) items
 
 -- the box can hear this answer, while these items wait for it
-pub record IsAnsweredAlone (images : List ImageParts) (box : Box) (heard : Hearing) (items : List Item) : Type 0 where
-  pub can : IsAbleToHear images box heard
-  pub places : AreAtOnePlace box.node (heard_ids heard) items
+pub record IsAnsweredAlone (images : List ImageParts) (box : Box) (hearing : Hearing)
+    (items : List Item) : Type 0 where
+  pub can : IsAbleToHear images box hearing
+  pub places : AreAtOnePlace box.node (hearing_ids hearing) items
 
 -- no call of the box but a Take is out, and each of its blocks is at one place
-pub record IsAloneAtRest (box : Box) (list : List ImageParts) (queue : Queue) : Type 0 where
-  pub idle : box.out ≡ Nothing
+pub record IsAloneAtRest (box : Box) (image_list : List ImageParts) (queue : Queue) : Type 0 where
+  pub idle : box.awaited_call ≡ Nothing
   pub well : IsWell box.node.turn box.node
   pub sound : IfSome box.node.turn IsSoundTurn
-  pub images : length list ≡ box.node.images
+  pub images : length image_list ≡ box.node.images
   pub room : greatest_blocks ≤ box.room
   pub places : AreAtOnePlace box.node [] queue.items
 

@@ -4,20 +4,21 @@ ghost use Rattle.ce_model.specs.Parcels.{item_id};
 ghost use Rattle.ce_model.specs.Node.{take_call};
 ghost use Rattle.ce_solo.proofs.Items.{parcel_ids};
 ghost use Rattle.rk_mail.specs.Items.{item_of};
-ghost use Rattle.rk_mail.specs.Talk.{call_said, is_of_take};
-ghost use Rattle.rk_node.specs.Answering.{IsWork};
-ghost use Rattle.rk_rows.specs.Lone.{heard_ids, batch_ids, HasQueued, IsFor, IsAnswerable, IsAnsweredAlone};
+ghost use Rattle.rk_mail.specs.Talk.{call_of_say, is_take_hearing};
+ghost use Rattle.rk_node.specs.Answering.{IsBoxWork};
+ghost use Rattle.rk_rows.specs.Lone.{hearing_ids, batch_ids, HasQueued, IsEligibleItem, IsAnswerable, IsAnsweredAlone};
 
 use crate::fault::RowFault;
 use crate::transcript::Transcript;
-use ce_model::{HOME_BLOCKS, HOST, KillFound, PROCESS_COUNT, Place, Status};
+use ce_model::{HOME_BLOCKS, HOST, KillResult, PROCESS_COUNT, Place, Status};
 use rk_mail::{Batch, Hearing, Item, Mailbox, Parcel, Say, kill_hearing, spawn_hearing};
 use rk_node::NodeBox;
 use rv_image::Image;
 use std::alloc::Global;
 use xm_block::Block;
 
-/// How many items can wait: a start and a kill for each process id, and a parcel for each block of the node.
+/// How many items can wait: a start and a kill for each process id, and a parcel for each block of
+/// the node.
 const QUEUE_ROOM: u32 = HOME_BLOCKS + 2 * PROCESS_COUNT;
 
 /// What became of a process id.
@@ -31,8 +32,8 @@ pub(crate) enum Life {
     Killed,
 }
 
-/// What answers a node that is alone: the items that wait for it, for how many more there is room at least, what became of each
-/// process id, how many parcels there were, and what was said so far.
+/// What answers a node that is alone: the items that wait for it, for how many more there is room
+/// at least, what became of each process id, how many parcels there were, and what was said so far.
 #[derive(Drop)]
 pub(crate) struct LoneDesk {
     pub mailbox: Mailbox,
@@ -81,7 +82,8 @@ impl LoneDesk {
         Ok(())
     }
 
-    /// The start of an image as a process waits, unless the process id was used: whether it was fresh.
+    /// The start of an image as a process waits, unless the process id was used: whether it was
+    /// fresh.
     pub fn accept_spawn(&mut self, image: u32, pid: u32) -> Result<bool, RowFault>
         ensures { IfOk result (λ _. HasQueued []
             self.old.mailbox.items self.new.mailbox.items) }
@@ -97,7 +99,7 @@ impl LoneDesk {
     }
 
     /// The end of a process waits, unless the process id wasn't used or a kill was accepted before.
-    pub fn accept_kill(&mut self, pid: u32) -> Result<KillFound, RowFault>
+    pub fn accept_kill(&mut self, pid: u32) -> Result<KillResult, RowFault>
         ensures { IfOk result (λ _. HasQueued []
             self.old.mailbox.items self.new.mailbox.items) }
     {
@@ -105,19 +107,20 @@ impl LoneDesk {
             Life::Used => {
                 set_life(&mut self.lives, pid, Life::Killed);
                 self.queue(Item::Kill { pid })?;
-                Ok(KillFound::Killed)
+                Ok(KillResult::Killed)
             }
-            Life::Unused => Ok(KillFound::Unused),
-            Life::Killed => Ok(KillFound::Already),
+            Life::Unused => Ok(KillResult::Unused),
+            Life::Killed => Ok(KillResult::Already),
         }
     }
 
-    /// A block goes its way: a parcel for a process of the node waits, and what is for the host is gone.
+    /// A block goes its way: a parcel for a process of the node waits, and what is for the host is
+    /// gone.
     fn deliver(&mut self, from: Place, to: Place, block: Block) -> Result<(), RowFault>
         ensures { IfOk result (λ _. HasQueued (block.id ∷ [])
             self.old.mailbox.items self.new.mailbox.items) }
     {
-        self.transcript.target(to, block.id())?;
+        self.transcript.write_target(to, block.id())?;
         let number = self.parcels;
         self.parcels = number.checked_add(1).ok_or(RowFault::Full)?;
         if to.node == HOST {
@@ -143,7 +146,8 @@ impl LoneDesk {
         if batch.count() == 0 {
             return Err(RowFault::Place);
         }
-        self.transcript.message(pid, self.parcels, batch.bytes())?;
+        self.transcript
+            .write_message(pid, self.parcels, batch.bytes())?;
         let from = Place { node: 0, pid };
         while let Some((to, block)) = batch.take_first() {
             self.deliver(from, to, block)?;
@@ -162,10 +166,10 @@ impl LoneDesk {
         poller: Option<u32>,
     ) -> Result<Hearing, RowFault>
         requires { IsAnswerable node.now (take_call asking dead poller) self.old.mailbox.items }
-        ensures { IfOk result (λ heard. IsAnsweredAlone images.now node.now heard
+        ensures { IfOk result (λ hearing. IsAnsweredAlone images.now node.now hearing
             self.new.mailbox.items) }
     {
-        let heard = match self.mailbox.next(asking, dead) {
+        let hearing = match self.mailbox.next(asking, dead) {
             Some(item) => {
                 self.spare = self.spare.saturating_add(1);
                 hearing_of_item(node, images, item)?
@@ -175,8 +179,8 @@ impl LoneDesk {
                 None => Hearing::Idle,
             },
         };
-        self.transcript.take(asking, dead, poller, &heard)?;
-        Ok(heard)
+        self.transcript.take(asking, dead, poller, &hearing)?;
+        Ok(hearing)
     }
 
     /// The answer to what the node has said.
@@ -184,13 +188,13 @@ impl LoneDesk {
         &mut self,
         node: &NodeBox,
         images: &[Image],
-        said: Say,
+        say: Say,
     ) -> Result<Hearing, RowFault>
-        requires { IsAnswerable node.now (call_said said) self.old.mailbox.items }
-        ensures { IfOk result (λ heard. IsAnsweredAlone images.now node.now heard
+        requires { IsAnswerable node.now (call_of_say say) self.old.mailbox.items }
+        ensures { IfOk result (λ hearing. IsAnsweredAlone images.now node.now hearing
             self.new.mailbox.items) }
     {
-        match said {
+        match say {
             Say::Take {
                 asking,
                 dead,
@@ -215,7 +219,7 @@ impl LoneDesk {
     }
 }
 
-/// What became of a process id, which is below 8.
+/// What became of a process id, which is below `PROCESS_COUNT`.
 #[tactic(auto, using(ce_model::specs::Limits::process_count_lem))]
 fn life_at(lives: &Vec<Life>, pid: u32) -> Result<Life, RowFault>
     ensures { IfOk result (λ _. pid < process_count) }
@@ -235,10 +239,10 @@ fn set_life(lives: &mut Vec<Life>, pid: u32, life: Life) {
 
 /// What a node hears that is given an item.
 fn hearing_of_item(node: &NodeBox, images: &[Image], item: Item) -> Result<Hearing, RowFault>
-    requires { IsFor node.now (item_of item) }
-    ensures work { IfOk result (λ heard. IsWork images.now node.now heard) }
-    ensures take { IfOk result (λ heard. IsTrue (is_of_take heard)) }
-    ensures blocks { IfOk result (λ heard. heard_ids heard ≡ parcel_ids (item_of item ∷ [])) }
+    requires { IsEligibleItem node.now (item_of item) }
+    ensures work { IfOk result (λ hearing. IsBoxWork images.now node.now hearing) }
+    ensures take { IfOk result (λ hearing. IsTrue (is_take_hearing hearing)) }
+    ensures blocks { IfOk result (λ hearing. hearing_ids hearing ≡ parcel_ids (item_of item ∷ [])) }
 {
     match item {
         Item::Start { pid, image } => {

@@ -2,7 +2,7 @@ use ce_model::NoMemory;
 use std::alloc::{AllocError, AllocFailed};
 use thiserror::Error;
 
-/// Why a step of a node that is driven by hand was not made. No further step is made then.
+/// Why a command of a node that is driven by hand was not made. No further command is made then.
 #[derive(Clone, Copy, Debug, PartialEq, Eq, Error)]
 pub enum RowFault {
     /// There are more than 64 images.
@@ -14,10 +14,11 @@ pub enum RowFault {
     /// No more items can wait.
     #[error("no room")]
     Full,
-    /// What waited can't be given: the process was started before, or wasn't yet, or its image isn't there.
+    /// What waited can't be given: the process was started before, or wasn't yet, or its image
+    /// isn't there.
     #[error("unfit")]
     Unfit,
-    /// An earlier step failed.
+    /// An earlier command failed.
     #[error("stuck")]
     Stuck,
     /// The node would go on.

@@ -1,4 +1,5 @@
-//! Worked rows of a node: a box that is driven by hand, with what waits for it, and what it said and heard.
+//! Worked rows of a node: a box that is driven by hand, with what waits for it, and what it said
+//! and heard.
 #![tactic(auto)]
 
 mod desk;

@@ -6,15 +6,15 @@ ghost use Rattle.rk_rows.specs.Lone.{HasExchangedAlone};
 use crate::desk::LoneDesk;
 use crate::fault::RowFault;
 use crate::transcript::Transcript;
-use ce_model::{GREATEST_BLOCKS, GREATEST_IMAGES, KillFound, PROCESS_COUNT, Status};
+use ce_model::{GREATEST_BLOCKS, GREATEST_IMAGES, KillResult, PROCESS_COUNT, Status};
 use rk_mail::Hearing;
 use rk_node::NodeBox;
 use rv_image::Image;
 use std::alloc::Global;
 use std::marker::Model;
 
-/// A node in a box, alone in its cube and driven by hand: its images, what answers it, and whether a step has failed, behind
-/// which no further step is made. Contracts see the box.
+/// A node in a box, alone in its cube and driven by hand: its images, what answers it, and whether
+/// a command has failed, behind which no further command is made. Contracts see the box.
 #[derive(Drop)]
 pub struct LoneNode {
     node: NodeBox,
@@ -37,8 +37,8 @@ impl Model for LoneNode {
 }
 
 impl LoneNode {
-    /// The node of a cube of one node, with these images, 64 at most, and no process started. What it says and hears is kept as
-    /// a text where that is asked for.
+    /// The node of a cube of one node, with these images, `GREATEST_IMAGES` at most, and no process
+    /// started. What it says and hears is kept as a text where that is asked for.
     pub fn new(alloc: Global, images: Vec<Image>, is_told: bool) -> Result<LoneNode, RowFault> {
         if images.len() > GREATEST_IMAGES as usize {
             return Err(RowFault::Images);
@@ -53,7 +53,8 @@ impl LoneNode {
         })
     }
 
-    /// Has the start of an image as a process wait, unless the process id was used: whether it was fresh.
+    /// Has the start of an image as a process wait, unless the process id was used: whether it was
+    /// fresh.
     pub fn spawn(&mut self, image: u32, pid: u32) -> Result<bool, RowFault>
         ensures { self.new ≡ self.old }
     {
@@ -66,8 +67,9 @@ impl LoneNode {
         Ok(is_fresh)
     }
 
-    /// Has the end of a process wait, unless the process id wasn't used or a kill was accepted before.
-    pub fn kill(&mut self, pid: u32) -> Result<KillFound, RowFault>
+    /// Has the end of a process wait, unless the process id wasn't used or a kill was accepted
+    /// before.
+    pub fn kill(&mut self, pid: u32) -> Result<KillResult, RowFault>
         ensures { self.new ≡ self.old }
     {
         if self.is_stuck {
@@ -79,7 +81,8 @@ impl LoneNode {
         Ok(found)
     }
 
-    /// The node says something, is answered, and hears the answer: whether there was something to do.
+    /// The node says something, is answered, and hears the answer: whether there was something to
+    /// do.
     pub fn exchange(&mut self) -> Result<bool, RowFault>
         ensures { IfOk result (λ _. HasExchangedAlone self.old self.new) }
     {
@@ -87,17 +90,17 @@ impl LoneNode {
             return Err(RowFault::Stuck);
         }
         self.is_stuck = true;
-        let said = self.node.says();
-        let heard = self.desk.answer(&self.node, self.images.as_slice(), said)?;
-        let has_work = !matches!(heard, Hearing::Idle);
-        self.node.hears(self.images.as_slice(), heard);
+        let say = self.node.says();
+        let hearing = self.desk.answer(&self.node, self.images.as_slice(), say)?;
+        let has_work = !matches!(hearing, Hearing::Idle);
+        self.node.hears(self.images.as_slice(), hearing);
         self.is_stuck = false;
         Ok(has_work)
     }
 
     /// Makes exchanges until there is nothing to do, so many at most.
-    pub fn run(&mut self, most: u32) -> Result<(), RowFault> {
-        for _ in 0..most {
+    pub fn run(&mut self, limit: u32) -> Result<(), RowFault> {
+        for _ in 0..limit {
             if !self.exchange()? {
                 return Ok(());
             }
@@ -105,7 +108,7 @@ impl LoneNode {
         Err(RowFault::Endless)
     }
 
-    /// What a process does at this moment; its id is below 8.
+    /// What a process does at this moment; its id is below `PROCESS_COUNT`.
     pub fn status(&self, pid: u32) -> Status
         requires { pid < process_count }
         ensures { result ≡ (process_at self.now.node pid).status }

@@ -6,7 +6,7 @@ use ce_text::TEXT_LIMIT;
 use rows::{
     ANSWERS, CALLS_SPENT, CAUSES_OF_CALLS, CAUSES_OF_INSTRUCTIONS, IDLE, JUMPS, KILLED,
     KILLED_LATE, MAIL_FOR_ONE_THAT_ASKS, MAIL_FOR_ONE_THAT_HAS_STOPPED, MAIL_FOR_ONE_THAT_POLLS,
-    POLLED, Row, SIZES, STARTED, Step, UNREAD, WINDOWS, XMSEND,
+    POLLED, Row, RowCommand, SIZES, STARTED, UNREAD, WINDOWS, XMSEND,
 };
 use rv_asm::assemble;
 use rv_image::Image;
@@ -15,7 +15,7 @@ use std::process::Abort;
 use std::test::Fail;
 
 /// How many exchanges a row has at most.
-const MOST: u32 = 100;
+const GREATEST_EXCHANGES: u32 = 100;
 
 fn image(alloc: Global, text: &str) -> Result<Image, Fail> {
     if text.len() >= TEXT_LIMIT {
@@ -24,22 +24,22 @@ fn image(alloc: Global, text: &str) -> Result<Image, Fail> {
     Ok(assemble(alloc, text.as_bytes())?)
 }
 
-/// The node once the steps of a row were made.
+/// The node once the commands of a row were made.
 fn driven_node(alloc: Global, row: &Row) -> Result<LoneNode, Fail> {
     let mut images = Vec::new(alloc);
     for text in row.images {
         images.push(image(alloc, text)?)?;
     }
     let mut node = LoneNode::new(alloc, images, true)?;
-    for step in row.steps {
-        match *step {
-            Step::Spawn { image, pid } => {
+    for command in row.commands {
+        match *command {
+            RowCommand::Spawn { image, pid } => {
                 node.spawn(image, pid)?;
             }
-            Step::Kill { pid } => {
+            RowCommand::Kill { pid } => {
                 node.kill(pid)?;
             }
-            Step::Run => node.run(MOST)?,
+            RowCommand::Run => node.run(GREATEST_EXCHANGES)?,
         }
     }
     Ok(node)

@@ -1,4 +1,4 @@
-use ce_model::{BlockId, HOST, KillFound, Place};
+use ce_model::{BlockId, HOST, KillResult, Place};
 use rk_mail::Hearing;
 use std::alloc::AllocError;
 use std::fmt::Write;
@@ -10,13 +10,14 @@ pub(crate) struct Transcript {
 }
 
 impl Transcript {
-    /// A Take: the ids that wait for a message, those that have stopped, who polls longest, and the answer.
+    /// A Take: the ids that wait for a message, those that have stopped, who polls longest, and the
+    /// answer.
     pub fn take(
         &mut self,
         asking: u32,
         dead: u32,
         poller: Option<u32>,
-        heard: &Hearing,
+        hearing: &Hearing,
     ) -> Result<(), AllocError> {
         let Some(text) = &mut self.text else {
             return Ok(());
@@ -26,7 +27,7 @@ impl Transcript {
             Some(pid) => write!(text, "{pid}")?,
             None => write!(text, "-")?,
         }
-        match heard {
+        match hearing {
             Hearing::Start { pid, image } => write!(text, " start {pid} {image}\n"),
             Hearing::Mail(parcel) => write!(text, " mail {} {}\n", parcel.to.pid, parcel.number),
             Hearing::Kill { pid } => write!(text, " kill {pid}\n"),
@@ -63,20 +64,20 @@ impl Transcript {
     }
 
     /// A kill, and what was found.
-    pub fn kill(&mut self, pid: u32, to: Place, found: KillFound) -> Result<(), AllocError> {
+    pub fn kill(&mut self, pid: u32, to: Place, found: KillResult) -> Result<(), AllocError> {
         let Some(text) = &mut self.text else {
             return Ok(());
         };
         let answer = match found {
-            KillFound::Killed => "ok",
-            KillFound::Unused => "unused",
-            KillFound::Already => "already",
+            KillResult::Killed => "ok",
+            KillResult::Unused => "unused",
+            KillResult::Already => "already",
         };
         write!(text, "kill {pid} {}.{} {answer}\n", to.node, to.pid)
     }
 
     /// A message: who sends it, the number of its first parcel, and its bytes.
-    pub fn message(&mut self, pid: u32, first: u64, bytes: &[u8]) -> Result<(), AllocError> {
+    pub fn write_message(&mut self, pid: u32, first: u64, bytes: &[u8]) -> Result<(), AllocError> {
         let Some(text) = &mut self.text else {
             return Ok(());
         };
@@ -88,7 +89,7 @@ impl Transcript {
     }
 
     /// A place of a message, and the block that goes there.
-    pub fn target(&mut self, to: Place, id: BlockId) -> Result<(), AllocError> {
+    pub fn write_target(&mut self, to: Place, id: BlockId) -> Result<(), AllocError> {
         let Some(text) = &mut self.text else {
             return Ok(());
         };

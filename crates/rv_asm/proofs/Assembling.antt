@@ -32,21 +32,21 @@ pub fails_first : (text : List ℕ) (fault : AsmFault) → AsmUnless fault.kind 
 unfolding assembly_of
 fails_first text fault u = unless_so fault.kind (first_pass text ≡ Err fault) (assembly_of text ≡ Err fault) (λ e. rw e refl) u
 
-pub fails_second : (text : List ℕ) (laid : LayoutSoFar) (fault : AsmFault) → first_pass text ≡ Ok laid
-    → AsmUnless fault.kind (second_pass laid.names PRIVATE_START laid.statements ≡ Err fault) → AsmUnless fault.kind (assembly_of text ≡ Err fault)
+pub fails_second : (text : List ℕ) (layout : LayoutSoFar) (fault : AsmFault) → first_pass text ≡ Ok layout
+    → AsmUnless fault.kind (second_pass layout.names PRIVATE_START layout.statements ≡ Err fault) → AsmUnless fault.kind (assembly_of text ≡ Err fault)
 unfolding assembly_of
-fails_second text laid fault first u =
-    unless_so fault.kind (second_pass laid.names PRIVATE_START laid.statements ≡ Err fault) (assembly_of text ≡ Err fault) (λ e. rw (first, e) refl) u
+fails_second text layout fault first u =
+    unless_so fault.kind (second_pass layout.names PRIVATE_START layout.statements ≡ Err fault) (assembly_of text ≡ Err fault) (λ e. rw (first, e) refl) u
 
-pub described : (text : List ℕ) (laid : LayoutSoFar) (parts : List Part) → first_pass text ≡ Ok laid → second_pass laid.names PRIVATE_START laid.statements ≡ Ok parts
-    → is_entry (entry_of laid.names) laid.size ≡ true → assembly_of text ≡ Ok (record { entry = entry_of laid.names; parts = parts })
+pub described : (text : List ℕ) (layout : LayoutSoFar) (parts : List Part) → first_pass text ≡ Ok layout → second_pass layout.names PRIVATE_START layout.statements ≡ Ok parts
+    → is_entry (entry_of layout.names) layout.size ≡ true → assembly_of text ≡ Ok (record { entry = entry_of layout.names; parts = parts })
 unfolding assembly_of
-described text laid parts first second entry = rw (first, second, entry) refl
+described text layout parts first second entry = rw (first, second, entry) refl
 
-pub has_no_entry : (text : List ℕ) (laid : LayoutSoFar) (parts : List Part) → first_pass text ≡ Ok laid → second_pass laid.names PRIVATE_START laid.statements ≡ Ok parts
-    → is_entry (entry_of laid.names) laid.size ≡ false → assembly_of text ≡ Err (record { line = 0; kind = Entry })
+pub has_no_entry : (text : List ℕ) (layout : LayoutSoFar) (parts : List Part) → first_pass text ≡ Ok layout → second_pass layout.names PRIVATE_START layout.statements ≡ Ok parts
+    → is_entry (entry_of layout.names) layout.size ≡ false → assembly_of text ≡ Err (record { line = 0; kind = Entry })
 unfolding assembly_of
-has_no_entry text laid parts first second entry = rw (first, second, entry) refl
+has_no_entry text layout parts first second entry = rw (first, second, entry) refl
 
 abbrev entry_fault : Bool → Option ImageFault
 entry_fault begins = cond (not begins) (Some image_faults.Entry) None
@@ -65,18 +65,18 @@ small_parts address loaded le =
     rw small refl
 
 -- the fault of the image that has these bytes and the entry of the layout
-judged : (laid : LayoutSoFar) (loaded : List ℕ) (entry : ℕ) (found : Option ImageFault) → entry ≡ entry_of laid.names → length loaded ≡ laid.size → laid.size ≤ IMAGE_ROOM
-    → found ≡ parts_fault (image_parts entry loaded 0) → found ≡ entry_fault (is_entry (entry_of laid.names) laid.size)
-judged laid loaded entry found same len le e =
+judgment : (layout : LayoutSoFar) (loaded : List ℕ) (entry : ℕ) (found : Option ImageFault) → entry ≡ entry_of layout.names → length loaded ≡ layout.size → layout.size ≤ IMAGE_ROOM
+    → found ≡ parts_fault (image_parts entry loaded 0) → found ≡ entry_fault (is_entry (entry_of layout.names) layout.size)
+judgment layout loaded entry found same len le e =
     e
     ∙ ap (λ (address : ℕ). parts_fault (image_parts address loaded 0)) same
-    ∙ small_parts (entry_of laid.names) loaded (omega arith)
-    ∙ ap (λ (size : ℕ). entry_fault (is_entry (entry_of laid.names) size)) len
+    ∙ small_parts (entry_of layout.names) loaded (omega arith)
+    ∙ ap (λ (size : ℕ). entry_fault (is_entry (entry_of layout.names) size)) len
 
-pub entry_there : (laid : LayoutSoFar) (loaded : List ℕ) (entry : ℕ) → entry ≡ entry_of laid.names → length loaded ≡ laid.size → laid.size ≤ IMAGE_ROOM
-    → None ≡ parts_fault (image_parts entry loaded 0) → is_entry (entry_of laid.names) laid.size ≡ true
-entry_there laid loaded entry same len le e = true_from_none _ (judged laid loaded entry None same len le e)
+pub entry_there : (layout : LayoutSoFar) (loaded : List ℕ) (entry : ℕ) → entry ≡ entry_of layout.names → length loaded ≡ layout.size → layout.size ≤ IMAGE_ROOM
+    → None ≡ parts_fault (image_parts entry loaded 0) → is_entry (entry_of layout.names) layout.size ≡ true
+entry_there layout loaded entry same len le e = true_from_none _ (judgment layout loaded entry None same len le e)
 
-pub entry_missing : (laid : LayoutSoFar) (loaded : List ℕ) (entry : ℕ) (fault : ImageFault) → entry ≡ entry_of laid.names → length loaded ≡ laid.size → laid.size ≤ IMAGE_ROOM
-    → Some fault ≡ parts_fault (image_parts entry loaded 0) → is_entry (entry_of laid.names) laid.size ≡ false
-entry_missing laid loaded entry fault same len le e = false_from_some _ fault (judged laid loaded entry (Some fault) same len le e)
+pub entry_missing : (layout : LayoutSoFar) (loaded : List ℕ) (entry : ℕ) (fault : ImageFault) → entry ≡ entry_of layout.names → length loaded ≡ layout.size → layout.size ≤ IMAGE_ROOM
+    → Some fault ≡ parts_fault (image_parts entry loaded 0) → is_entry (entry_of layout.names) layout.size ≡ false
+entry_missing layout loaded entry fault same len le e = false_from_some _ fault (judgment layout loaded entry (Some fault) same len le e)

@@ -22,19 +22,19 @@ spells_append (Plain plain ∷ front) back xs ys s t =
     (s.0 ++ ys, ap (λ (zs : List ℕ). zs ++ ys) s.1 ∙ append_assoc plain s.0 ys, spells_append front back s.0 ys s.2 t)
 
 -- parts in front of those that a pass gives
-abbrev pub behind : List Part → List Part → Result (List Part) AsmFault
-behind front parts = Ok (front ++ parts)
+abbrev pub parts_with_front : List Part → List Part → Result (List Part) AsmFault
+parts_with_front front parts = Ok (front ++ parts)
 
 -- the bytes lay out parts, and with those of the statements that are left they are the whole
 pub record IsPutSoFar (names : Names) (all : List PlacedStatement) (i : ℕ) (bytes : List ℕ) : Type 0 where
   pub parts : List Part
   pub spelled : IsSpellingOf parts bytes
-  pub whole : second_pass names PRIVATE_START all ≡ (second_pass names (PRIVATE_START + length bytes) (drop i all) >>= behind parts)
+  pub whole : second_pass names PRIVATE_START all ≡ (second_pass names (PRIVATE_START + length bytes) (drop i all) >>= parts_with_front parts)
 
 pub put_plain : (old new plain : List ℕ) → new ≡ old ++ plain → HasAppendedParts (Plain plain ∷ []) old new
 put_plain old new plain e = (plain, ([], sym (append-nil plain), refl), e)
 
-nothing_behind : (r : Result (List Part) AsmFault) → r ≡ (r >>= behind [])
+nothing_behind : (r : Result (List Part) AsmFault) → r ≡ (r >>= parts_with_front [])
 nothing_behind (Ok parts) = refl
 nothing_behind (Err fault) = refl
 
@@ -43,25 +43,25 @@ put_none names all bytes e =
     subst (IsPutSoFar names all 0) (sym e) (record { parts = []; spelled = refl; whole = nothing_behind (second_pass names PRIVATE_START all) })
 
 -- what is left to do from a statement on, whose parts are known
-abbrev pub onward : Names → ℕ → List PlacedStatement → List Part → List Part → Result (List Part) AsmFault
-onward names address others front here = (second_pass names address others >>= λ there. Ok (here ++ there)) >>= behind front
+abbrev pub result_with_front : Names → ℕ → List PlacedStatement → List Part → List Part → Result (List Part) AsmFault
+result_with_front names address others front here = (second_pass names address others >>= λ there. Ok (here ++ there)) >>= parts_with_front front
 
-flat : (line : ℕ) (r : Result (List Part) AsmKind) (next : List Part → Result (List Part) AsmFault) (front : List Part) → ((judgment_at_line line r >>= next) >>= behind front) ≡ (judgment_at_line line r >>= λ here. next here >>= behind front)
+flat : (line : ℕ) (r : Result (List Part) AsmKind) (next : List Part → Result (List Part) AsmFault) (front : List Part) → ((judgment_at_line line r >>= next) >>= parts_with_front front) ≡ (judgment_at_line line r >>= λ here. next here >>= parts_with_front front)
 flat line (Ok here) next front = refl
 flat line (Err kind) next front = refl
 
 pub put_step : (names : Names) (all : List PlacedStatement) (i : ℕ) (d : PlacedStatement) (old : List ℕ) → i < length all → (before : IsPutSoFar names all i old)
     → second_pass names PRIVATE_START all
     ≡ (judgment_at_line (get_or all i d).line (parts_of names (PRIVATE_START + length old) (get_or all i d).statement)
-    >>= onward names (PRIVATE_START + length old + size_of (get_or all i d).statement) (drop (i + 1) all) before.parts)
+    >>= result_with_front names (PRIVATE_START + length old + size_of (get_or all i d).statement) (drop (i + 1) all) before.parts)
 unfolding second_pass
 put_step names all i d old lt before =
     before.whole
-    ∙ ap (λ (placed : List PlacedStatement). second_pass names (PRIVATE_START + length old) placed >>= behind before.parts) (drop_more all i d lt)
+    ∙ ap (λ (placed : List PlacedStatement). second_pass names (PRIVATE_START + length old) placed >>= parts_with_front before.parts) (drop_more all i d lt)
     ∙ flat (get_or all i d).line (parts_of names (PRIVATE_START + length old) (get_or all i d).statement)
     (λ here. second_pass names (PRIVATE_START + length old + size_of (get_or all i d).statement) (drop (i + 1) all) >>= λ there. Ok (here ++ there)) before.parts
 
-regroup : (front here : List Part) (r : Result (List Part) AsmFault) → ((r >>= λ there. Ok (here ++ there)) >>= behind front) ≡ (r >>= behind (front ++ here))
+regroup : (front here : List Part) (r : Result (List Part) AsmFault) → ((r >>= λ there. Ok (here ++ there)) >>= parts_with_front front) ≡ (r >>= parts_with_front (front ++ here))
 regroup front here (Ok there) = ap (λ (parts : List Part). Ok parts) (sym (append_assoc front here there))
 regroup front here (Err fault) = refl
 
@@ -75,16 +75,16 @@ put_more names all i d old new lt before parts e appended size =
       spelled = subst (IsSpellingOf (before.parts ++ parts)) (sym appended.2) (spells_append before.parts parts old appended.0 before.spelled appended.1);
       whole =
           put_step names all i d old lt before
-          ∙ ap (λ (r : Result (List Part) AsmKind). judgment_at_line (get_or all i d).line r >>= onward names (PRIVATE_START + length old + size_of (get_or all i d).statement) (drop (i + 1) all) before.parts) e
+          ∙ ap (λ (r : Result (List Part) AsmKind). judgment_at_line (get_or all i d).line r >>= result_with_front names (PRIVATE_START + length old + size_of (get_or all i d).statement) (drop (i + 1) all) before.parts) e
           ∙ regroup before.parts parts (second_pass names (PRIVATE_START + length old + size_of (get_or all i d).statement) (drop (i + 1) all))
-          ∙ ap (λ (address : ℕ). second_pass names address (drop (i + 1) all) >>= behind (before.parts ++ parts)) there;
+          ∙ ap (λ (address : ℕ). second_pass names address (drop (i + 1) all) >>= parts_with_front (before.parts ++ parts)) there;
     }
 
 pub put_all : (names : Names) (all : List PlacedStatement) (i : ℕ) (bytes : List ℕ) → length all ≤ i → (so_far : IsPutSoFar names all i bytes) → second_pass names PRIVATE_START all ≡ Ok so_far.parts
 unfolding second_pass
 put_all names all i bytes le so_far =
     so_far.whole
-    ∙ ap (λ (r : Result (List Part) AsmFault). r >>= behind so_far.parts) (at_drop_all (second_pass names (PRIVATE_START + length bytes)) all i le)
+    ∙ ap (λ (r : Result (List Part) AsmFault). r >>= parts_with_front so_far.parts) (at_drop_all (second_pass names (PRIVATE_START + length bytes)) all i le)
     ∙ ap (λ (parts : List Part). Ok parts) (append-nil so_far.parts)
 
 pub sound_at : (all : List PlacedStatement) (i : ℕ) (d : PlacedStatement) → i < length all → ArePlacedSound all → IsSoundStatement (get_or all i d).statement

@@ -2,7 +2,7 @@
 use Rattle.std.proofs.Common.{◌≡◌, ℕ, ◌+◌, List, [], ◌∷◌, option_map, refl, inl, inr}
 use Rattle.std.specs.Prelude.{bytes_eq, codes}
 use Rattle.std.proofs.lemmas.Bool.{cases_Bool}
-use Rattle.ce_text.specs.Table.{look_up}
+use Rattle.ce_text.specs.Table.{table_value}
 use Rattle.rv_asm.specs.Places.{place_of, register_number}
 use Rattle.rv_asm.specs.Register.{register_names, named_register}
 
@@ -12,7 +12,7 @@ placed value place [] = []
 placed value place (word ∷ words) = (word, value place) ∷ placed value (place + 1) words
 
 look_up_placed : {X : Type 0} (value : ℕ → X) (place : ℕ) (words : List (List ℕ)) (text : List ℕ)
-    → look_up (placed value place words) text ≡ option_map value (place_of place words text)
+    → table_value (placed value place words) text ≡ option_map value (place_of place words text)
 look_up_placed value place [] text = refl
 look_up_placed value place (word ∷ words) text = elim (cases_Bool (bytes_eq word text)) [
   | inl t ↦ rw t refl

@@ -22,8 +22,8 @@ unless TooFar P p = p
 unless Entry P p = p
 unless (Memory cause) P p = tt
 
-pub stops_all : {A B : Type 0} (halt : Halt) (line : ℕ) (judged : Result A AsmKind) (next : A → Result B AsmFault) (total : Result B AsmFault)
-    → total ≡ (judgment_at_line line judged >>= next) → IsHaltOf halt judged → AsmUnless (halt_fault halt line).kind (total ≡ Err (halt_fault halt line))
-stops_all halts.Memory line judged next total e s = tt
-stops_all (halts.Fault kind) line judged next total e s =
+pub stops_all : {A B : Type 0} (halt : Halt) (line : ℕ) (judgment : Result A AsmKind) (next : A → Result B AsmFault) (total : Result B AsmFault)
+    → total ≡ (judgment_at_line line judgment >>= next) → IsHaltOf halt judgment → AsmUnless (halt_fault halt line).kind (total ≡ Err (halt_fault halt line))
+stops_all halts.Memory line judgment next total e s = tt
+stops_all (halts.Fault kind) line judgment next total e s =
     unless kind (total ≡ Err (record { line = line; kind = kind })) (e ∙ ap (λ r. judgment_at_line line r >>= next) s)

@@ -31,10 +31,10 @@ entry_of names = label_or_start (names (codes "start"))
 -- what a text describes, or its first fault
 unfoldable pub assembly_of : List ℕ → Result Assembly AsmFault
 assembly_of text = do
-  laid ← first_pass text
-  parts ← second_pass laid.names PRIVATE_START laid.statements
-  begins ← judgment_at_line 0 (refusal (not (is_entry (entry_of laid.names) laid.size)) Entry)
-  Ok (record { entry = entry_of laid.names; parts = parts })
+  layout ← first_pass text
+  parts ← second_pass layout.names PRIVATE_START layout.statements
+  begins ← judgment_at_line 0 (refusal (not (is_entry (entry_of layout.names) layout.size)) Entry)
+  Ok (record { entry = entry_of layout.names; parts = parts })
 
 -- an image that is laid out so
 pub record IsLaidOut (assembly : Assembly) (image : ImageParts) : Type 0 where
@@ -44,5 +44,6 @@ pub record IsLaidOut (assembly : Assembly) (image : ImageParts) : Type 0 where
 
 -- the image that the text describes, or its first fault, unless memory runs out
 abbrev pub IsAssemblyOf : List ℕ → Result ImageParts AsmFault → Type 0
-IsAssemblyOf text (Ok image) = (assembly : Assembly) × (assembly_of text ≡ Ok assembly) × IsLaidOut assembly image
+IsAssemblyOf text (Ok image) =
+    (assembly : Assembly) × (assembly_of text ≡ Ok assembly) × IsLaidOut assembly image
 IsAssemblyOf text (Err fault) = AsmUnless fault.kind (assembly_of text ≡ Err fault)

@@ -16,5 +16,5 @@ pub mod SecondPass
 pub mod Sound
 pub mod Spelling
 pub mod Assembly
-pub mod LaidOut
+pub mod LayoutView
 pub mod Law

@@ -1,5 +1,5 @@
 -- Operands of statements.
-use Rattle.std.specs.Prelude.{◌≡◌, ℕ, ◌-◌, ◌^◌, ◌%◌, Bool, false, not, ◌&&◌, ◌==◌, if◌then◌else◌, List, [], ◌∷◌, Option, Some, None, Result, Ok, Err, length, ℤ, pos, negsuc, int_le}
+use Rattle.std.specs.Prelude.{◌≡◌, ℕ, ◌-◌, ◌^◌, ◌%◌, Bool, false, not, ◌&&◌, ◌==◌, if◌then◌else◌, List, [], ◌∷◌, Option, Some, None, Result, Ok, Err, length, ℤ, pos, negsuc, int_le, ok_or}
 use Rattle.rv_model.specs.declared.limits.TheConstants.{GREATEST_IMMEDIATE, GREATEST_SHIFT, LEAST_IMMEDIATE}
 use Rattle.rv_model.specs.declared.inst.ImmOp.{ImmOp}
 use Rattle.rv_model.specs.declared.inst.ImmOp.TheVariants.{Slli, Srli, Srai}
@@ -13,12 +13,12 @@ use Rattle.rv_asm.specs.Name.{is_name}
 use Rattle.rv_asm.specs.Register.{named_register}
 use Rattle.rv_asm.specs.Literal.{literal_of}
 use Rattle.rv_asm.specs.Names.{Names}
-use Rattle.rv_asm.specs.Faults.{◌>>=◌, refusal, or_fault, pair_judgment}
+use Rattle.rv_asm.specs.Faults.{◌>>=◌, refusal, pair_judgment}
 
 -- a judgment that stands for another one: the same fault, or its value seen by `view`
 abbrev pub IsViewOf : {A B : Type 0} → (A → B) → Result A AsmKind → Result B AsmKind → Type 0
-IsViewOf view (Ok x) judged = judged ≡ Ok (view x)
-IsViewOf view (Err kind) judged = judged ≡ Err kind
+IsViewOf view (Ok x) judgment = judgment ≡ Ok (view x)
+IsViewOf view (Err kind) judgment = judgment ≡ Err kind
 
 -- ---- how many operands
 
@@ -26,49 +26,50 @@ abbrev pub no_piece : List ℕ → Result (Unit {0}) AsmKind
 no_piece [] = Ok tt
 no_piece (byte ∷ bytes) = Err Operands
 
-abbrev pub one_of : List (List ℕ) → Result (List ℕ) AsmKind
-one_of [] = Err Operands
-one_of (first ∷ []) = Ok first
-one_of (first ∷ second ∷ others) = Err Operands
+abbrev pub single_text : List (List ℕ) → Result (List ℕ) AsmKind
+single_text [] = Err Operands
+single_text (first ∷ []) = Ok first
+single_text (first ∷ second ∷ others) = Err Operands
 
-abbrev pub two_of : List (List ℕ) → Result (List ℕ × List ℕ) AsmKind
-two_of [] = Err Operands
-two_of (first ∷ others) = one_of others >>= λ second. Ok (first, second)
+abbrev pub text_pair : List (List ℕ) → Result (List ℕ × List ℕ) AsmKind
+text_pair [] = Err Operands
+text_pair (first ∷ others) = single_text others >>= λ second. Ok (first, second)
 
-abbrev pub three_of : List (List ℕ) → Result (List ℕ × List ℕ × List ℕ) AsmKind
-three_of [] = Err Operands
-three_of (first ∷ others) = two_of others >>= λ last. Ok (first, last.0, last.1)
+abbrev pub text_triple : List (List ℕ) → Result (List ℕ × List ℕ × List ℕ) AsmKind
+text_triple [] = Err Operands
+text_triple (first ∷ others) = text_pair others >>= λ last. Ok (first, last.0, last.1)
 
 unfoldable pub one_piece : List ℕ → Result (List ℕ) AsmKind
-one_piece operands = one_of (pieces operands)
+one_piece operands = single_text (pieces operands)
 
 unfoldable pub two_pieces : List ℕ → Result (List ℕ × List ℕ) AsmKind
-two_pieces operands = two_of (pieces operands)
+two_pieces operands = text_pair (pieces operands)
 
 unfoldable pub three_pieces : List ℕ → Result (List ℕ × List ℕ × List ℕ) AsmKind
-three_pieces operands = three_of (pieces operands)
+three_pieces operands = text_triple (pieces operands)
 
 -- ---- one operand
 
 unfoldable pub register : List ℕ → Result ℕ AsmKind
 register piece = do
   whole ← refusal (not (is_token piece)) Operands
-  or_fault (named_register piece) BadRegister
+  ok_or (named_register piece) BadRegister
 
 -- what a name means where a number is wanted: the number that an earlier `.equ` gave
-abbrev pub number_named : Option Symbol → Result ℤ AsmKind
-number_named (Some (Number n)) = Ok n
-number_named (Some (Label address)) = Err UnknownName
-number_named None = Err UnknownName
+abbrev pub number_judgment : Option Symbol → Result ℤ AsmKind
+number_judgment (Some (Number n)) = Ok n
+number_judgment (Some (Label address)) = Err UnknownName
+number_judgment None = Err UnknownName
 
 unfoldable pub number : Names → List ℕ → Result ℤ AsmKind
 number names piece = do
   whole ← refusal (not (is_token piece)) Operands
-  if is_name piece then number_named (names piece) else or_fault (literal_of piece) BadNumber
+  if is_name piece then number_judgment (names piece) else ok_or (literal_of piece) BadNumber
 
 -- a number that is judged to lie in a range
 unfoldable pub number_in_range : ℤ → ℤ → Result ℤ AsmKind → Result ℤ AsmKind
-number_in_range low high judged = judged >>= λ n. if int_le low n && int_le n high then Ok n else Err BadNumber
+number_in_range low high judgment =
+    judgment >>= λ n. if int_le low n && int_le n high then Ok n else Err BadNumber
 
 -- an operand that is a name
 unfoldable pub name_piece : List ℕ → Result (Unit {0}) AsmKind
@@ -86,12 +87,14 @@ is_closed (Some rest) = length (without_outer_blanks rest) == 0
 -- `n(rs1)`, as its number and its register
 abbrev pub bracket_operand : Names → List ℕ → Option (List ℕ) → Result (ℤ × ℕ) AsmKind
 bracket_operand names front None = Err Operands
-bracket_operand names front (Some behind) = do
-  whole ← refusal (not (is_closed (cut_parts is_closing behind).1)) Operands
-  pair_judgment (twelve_bits names (without_outer_blanks front)) (register (without_outer_blanks (cut_parts is_closing behind).0))
+bracket_operand names front (Some rest) = do
+  whole ← refusal (not (is_closed (cut_parts is_closing rest).1)) Operands
+  pair_judgment (twelve_bits names (without_outer_blanks front))
+      (register (without_outer_blanks (cut_parts is_closing rest).0))
 
 unfoldable pub memory : Names → List ℕ → Result (ℤ × ℕ) AsmKind
-memory names piece = bracket_operand names (cut_parts is_opening piece).0 (cut_parts is_opening piece).1
+memory names piece =
+    bracket_operand names (cut_parts is_opening piece).0 (cut_parts is_opening piece).1
 
 -- ---- numbers as bits
 

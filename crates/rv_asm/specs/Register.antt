@@ -1,6 +1,6 @@
 -- The names of the registers.
 use Rattle.std.specs.Prelude.{ℕ, List, [], ◌∷◌, Option, codes}
-use Rattle.ce_text.specs.Table.{look_up}
+use Rattle.ce_text.specs.Table.{table_value}
 
 -- the names of the RISC-V calling convention ("Integer Register Convention"), then the numbers
 unfoldable pub register_names : List (List ℕ × ℕ)
@@ -26,4 +26,4 @@ register_names =
 
 -- the number of the register with this name
 unfoldable pub named_register : List ℕ → Option ℕ
-named_register name = look_up register_names name
+named_register name = table_value register_names name

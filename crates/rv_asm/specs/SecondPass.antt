@@ -24,17 +24,18 @@ pub data Part : Type 0 where
   Plain : List ℕ → Part
 
 -- the address that a label stands for
-abbrev pub address_meant : Option Symbol → Result ℕ AsmKind
-address_meant (Some (Label address)) = Ok address
-address_meant (Some (Number n)) = Err UnknownName
-address_meant None = Err UnknownName
+abbrev pub address_judgment : Option Symbol → Result ℕ AsmKind
+address_judgment (Some (Label address)) = Ok address
+address_judgment (Some (Number n)) = Err UnknownName
+address_judgment None = Err UnknownName
 
 unfoldable pub address_of : Names → List ℕ → Result ℕ AsmKind
-address_of names label = address_meant (names label)
+address_of names label = address_judgment (names label)
 
 -- an even number from -reach to reach - 1
 abbrev pub is_reached : ℕ → ℤ → Bool
-is_reached reach offset = (unsigned_abs offset % 2 == 0) && int_le (neg_ℤ (pos reach)) offset && int_lt offset (pos reach)
+is_reached reach offset =
+    (unsigned_abs offset % 2 == 0) && int_le (neg_ℤ (pos reach)) offset && int_lt offset (pos reach)
 
 -- from the instruction at an address to a target
 unfoldable pub offset_to : ℕ → ℕ → ℕ → Result ℤ AsmKind
@@ -66,7 +67,7 @@ parts_of names address (statements.Zero count) = Ok (Plain (replicate count 0) �
 -- what statements from an address on become
 unfoldable pub second_pass : Names → ℕ → List PlacedStatement → Result (List Part) AsmFault
 second_pass names address [] = Ok []
-second_pass names address (placed ∷ others) = do
-  here ← judgment_at_line placed.line (parts_of names address placed.statement)
-  there ← second_pass names (address + size_of placed.statement) others
-  Ok (here ++ there)
+second_pass names address (placed_statement ∷ others) = do
+  statement_parts ← judgment_at_line placed_statement.line (parts_of names address placed_statement.statement)
+  later_parts ← second_pass names (address + size_of placed_statement.statement) others
+  Ok (statement_parts ++ later_parts)

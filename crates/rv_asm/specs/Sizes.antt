@@ -1,5 +1,5 @@
 -- How much room statements take.
-use Rattle.std.specs.Prelude.{ℕ, Bool, true, false, List, sum_by}
+use Rattle.std.specs.Prelude.{ℕ, Bool, true, false, List, sum_by, ◌*◌}
 use Rattle.rv_model.specs.declared.limits.TheConstants.{WORD_SIZE}
 use Rattle.rv_asm.specs.declared.statement.PlacedStatement.{PlacedStatement}
 use Rattle.rv_asm.specs.declared.statement.Statement.{Statement}
@@ -10,7 +10,7 @@ abbrev pub size_of : Statement → ℕ
 size_of (Inst inst) = WORD_SIZE
 size_of (Jal rd label) = WORD_SIZE
 size_of (Branch op rs1 rs2 label) = WORD_SIZE
-size_of (La rd label) = 8
+size_of (La rd label) = 2 * WORD_SIZE
 size_of (Word word) = WORD_SIZE
 size_of (Address label) = WORD_SIZE
 size_of (Byte byte) = 1
@@ -24,4 +24,4 @@ lays_words statement = true
 
 -- how many bytes statements take together
 abbrev pub statements_size : List PlacedStatement → ℕ
-statements_size placed = sum_by (λ it. size_of it.statement) placed
+statements_size placed_statements = sum_by (λ it. size_of it.statement) placed_statements

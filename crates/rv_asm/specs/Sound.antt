@@ -64,16 +64,17 @@ IsValid-prop (insts.Fence word) = hlevel props
 IsValid-prop insts.Ecall = hlevel props
 IsValid-prop insts.Ebreak = hlevel props
 
-IsSound-prop : (statement : Statement) → IsProp (IsSoundStatement statement)
-IsSound-prop (statements.Inst inst) = IsValid-prop inst
-IsSound-prop (statements.Jal rd label) = hlevel props
-IsSound-prop (statements.Branch op rs1 rs2 label) = hlevel props
-IsSound-prop (statements.La rd label) = hlevel props
-IsSound-prop (statements.Word word) = hlevel props
-IsSound-prop (statements.Address label) = hlevel props
-IsSound-prop (statements.Byte byte) = hlevel props
-IsSound-prop (statements.Zero count) = hlevel props
+IsSoundStatement-prop : (statement : Statement) → IsProp (IsSoundStatement statement)
+IsSoundStatement-prop (statements.Inst inst) = IsValid-prop inst
+IsSoundStatement-prop (statements.Jal rd label) = hlevel props
+IsSoundStatement-prop (statements.Branch op rs1 rs2 label) = hlevel props
+IsSoundStatement-prop (statements.La rd label) = hlevel props
+IsSoundStatement-prop (statements.Word word) = hlevel props
+IsSoundStatement-prop (statements.Address label) = hlevel props
+IsSoundStatement-prop (statements.Byte byte) = hlevel props
+IsSoundStatement-prop (statements.Zero count) = hlevel props
 
 pub ArePlacedSound-prop : (placed : List PlacedStatement) → IsProp (ArePlacedSound placed)
 ArePlacedSound-prop [] = hlevel props
-ArePlacedSound-prop (one ∷ others) = hlevel (props, IsSound-prop one.statement, ArePlacedSound-prop others)
+ArePlacedSound-prop (one ∷ others) =
+    hlevel (props, IsSoundStatement-prop one.statement, ArePlacedSound-prop others)

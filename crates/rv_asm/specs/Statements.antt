@@ -1,11 +1,11 @@
 -- What each statement means.
-use Rattle.std.specs.Prelude.{ℕ, ◌+◌, ◌*◌, ◌/◌, ◌-◌, ◌^◌, ◌%◌, Bool, not, ◌||◌, nat_lt, nat_le, if◌then◌else◌, List, [], ◌∷◌, map, Option, Some, None, Result, Ok, ℤ, pos, unsigned_abs}
+use Rattle.std.specs.Prelude.{ℕ, ◌+◌, ◌*◌, ◌/◌, ◌-◌, ◌^◌, ◌%◌, Bool, not, ◌||◌, nat_lt, nat_le, if◌then◌else◌, List, [], ◌∷◌, map, Option, Some, None, Result, Ok, ℤ, pos, unsigned_abs, ok_or}
 use Rattle.rv_model.specs.declared.limits.TheConstants.{GREATEST_UPPER, LEAST_IMMEDIATE, IMAGE_ROOM, UPPER_UNIT}
 use Rattle.rv_model.specs.declared.inst.Inst.{Inst}
 use Rattle.rv_model.specs.declared.inst.Inst.TheVariants as insts
 use Rattle.rv_model.specs.declared.inst.ImmOp.{ImmOp}
 use Rattle.rv_model.specs.declared.inst.ImmOp.TheVariants.{Addi}
-use Rattle.rv_model.specs.Words.{sign_extended}
+use Rattle.rv_model.specs.Words.{sign_extension}
 use Rattle.rv_asm.specs.declared.fault.AsmKind.{AsmKind}
 use Rattle.rv_asm.specs.declared.fault.AsmKind.TheVariants.{Operands, BadNumber}
 use Rattle.rv_asm.specs.declared.symbols.Symbol.{Symbol}
@@ -19,7 +19,7 @@ use Rattle.rv_asm.specs.Line.{pieces, is_token}
 use Rattle.rv_asm.specs.Name.{is_name}
 use Rattle.rv_asm.specs.Literal.{literal_of}
 use Rattle.rv_asm.specs.Names.{Names}
-use Rattle.rv_asm.specs.Faults.{◌>>=◌, refusal, or_fault, pair_judgment, judgment_of_list}
+use Rattle.rv_asm.specs.Faults.{◌>>=◌, refusal, pair_judgment, judgment_of_list}
 use Rattle.rv_asm.specs.Operand.{no_piece, one_piece, two_pieces, three_pieces, register, number, number_in_range, name_piece, memory, wrapped_word, byte_of, least_immediate, greatest_immediate}
 
 -- ---- `li` and `la`
@@ -30,15 +30,16 @@ immediate_reach = unsigned_abs LEAST_IMMEDIATE
 
 -- the low 12 bits of a word, sign-extended
 abbrev pub low_part : ℕ → ℤ
-low_part word = sign_extended 12 (word % UPPER_UNIT)
+low_part word = sign_extension 12 (word % UPPER_UNIT)
 
--- what is left of a word without its low part, modulo 2^32: a multiple of 4,096
+-- what is left of a word without its low part, modulo 2^32: a multiple of `UPPER_UNIT`
 abbrev pub high_part : ℕ → ℕ
 high_part word = (word + immediate_reach) / UPPER_UNIT % 2 ^ 20 * UPPER_UNIT
 
 -- `lui rd, high` and `addi rd, rd, low`
 abbrev pub two_instructions : ℕ → ℕ → List Inst
-two_instructions rd word = insts.Lui rd (high_part word) ∷ insts.OpImm Addi rd rd (low_part word) ∷ []
+two_instructions rd word =
+    insts.Lui rd (high_part word) ∷ insts.OpImm Addi rd rd (low_part word) ∷ []
 
 -- the I format can hold the word, as a signed number
 abbrev pub is_short : ℕ → Bool
@@ -46,7 +47,8 @@ is_short word = nat_lt word immediate_reach || nat_le (2 ^ 32 - immediate_reach)
 
 -- the instructions that put a word into a register
 abbrev pub load_word : ℕ → ℕ → List Inst
-load_word rd word = if is_short word then insts.OpImm Addi rd 0 (low_part word) ∷ [] else two_instructions rd word
+load_word rd word =
+    if is_short word then insts.OpImm Addi rd 0 (low_part word) ∷ [] else two_instructions rd word
 
 -- ---- operands in the forms of the statements
 
@@ -66,7 +68,8 @@ register_memory names operands = do
 
 -- the number of an operation on a register and a number
 unfoldable pub immediate : Names → ImmOp → List ℕ → Result ℤ AsmKind
-immediate names op piece = number_in_range (least_immediate op) (greatest_immediate op) (number names piece)
+immediate names op piece =
+    number_in_range (least_immediate op) (greatest_immediate op) (number names piece)
 
 -- `rd, rs1, n`
 unfoldable pub registers_immediate : Names → ImmOp → List ℕ → Result (ℕ × ℕ × ℤ) AsmKind
@@ -117,15 +120,16 @@ one_label operands = do
   Ok part
 
 -- an operand of `.word`: a number, or a name that is none so far, which is a label
-abbrev pub value_named : List ℕ → Option Symbol → Statement
-value_named name (Some (Number n)) = statements.Word (wrapped_word n)
-value_named name (Some (Label address)) = statements.Address name
-value_named name None = statements.Address name
+abbrev pub word_statement : List ℕ → Option Symbol → Statement
+word_statement name (Some (Number n)) = statements.Word (wrapped_word n)
+word_statement name (Some (Label address)) = statements.Address name
+word_statement name None = statements.Address name
 
 unfoldable pub word_value : Names → List ℕ → Result Statement AsmKind
 word_value names piece = do
   whole ← refusal (not (is_token piece)) Operands
-  if is_name piece then Ok (value_named piece (names piece)) else (or_fault (literal_of piece) BadNumber >>= λ n. Ok (statements.Word (wrapped_word n)))
+  if is_name piece then Ok (word_statement piece (names piece))
+      else (ok_or (literal_of piece) BadNumber >>= λ n. Ok (statements.Word (wrapped_word n)))
 
 -- an operand of `.byte`
 unfoldable pub byte_value : Names → List ℕ → Result Statement AsmKind
@@ -148,46 +152,48 @@ statements_of (mnemonics.Plain inst) names operands = do
   nothing ← no_piece operands
   Ok (statements.Inst inst ∷ [])
 statements_of mnemonics.Lui names operands = do
-  it ← register_upper names operands
-  Ok (statements.Inst (insts.Lui it.0 it.1) ∷ [])
+  values ← register_upper names operands
+  Ok (statements.Inst (insts.Lui values.0 values.1) ∷ [])
 statements_of mnemonics.Auipc names operands = do
-  it ← register_upper names operands
-  Ok (statements.Inst (insts.Auipc it.0 it.1) ∷ [])
+  values ← register_upper names operands
+  Ok (statements.Inst (insts.Auipc values.0 values.1) ∷ [])
 statements_of mnemonics.Jalr names operands = do
-  it ← register_memory names operands
-  Ok (statements.Inst (insts.Jalr it.0 it.2 it.1) ∷ [])
+  values ← register_memory names operands
+  Ok (statements.Inst (insts.Jalr values.0 values.2 values.1) ∷ [])
 statements_of (mnemonics.Load op) names operands = do
-  it ← register_memory names operands
-  Ok (statements.Inst (insts.Load op it.0 it.2 it.1) ∷ [])
+  values ← register_memory names operands
+  Ok (statements.Inst (insts.Load op values.0 values.2 values.1) ∷ [])
 statements_of (mnemonics.Store op) names operands = do
-  it ← register_memory names operands
-  Ok (statements.Inst (insts.Store op it.2 it.0 it.1) ∷ [])
+  values ← register_memory names operands
+  Ok (statements.Inst (insts.Store op values.2 values.0 values.1) ∷ [])
 statements_of (mnemonics.OpImm op) names operands = do
-  it ← registers_immediate names op operands
-  Ok (statements.Inst (insts.OpImm op it.0 it.1 it.2) ∷ [])
+  values ← registers_immediate names op operands
+  Ok (statements.Inst (insts.OpImm op values.0 values.1 values.2) ∷ [])
 statements_of (mnemonics.Op op) names operands = do
-  it ← three_registers operands
-  Ok (statements.Inst (insts.Op op it.0 it.1 it.2) ∷ [])
+  values ← three_registers operands
+  Ok (statements.Inst (insts.Op op values.0 values.1 values.2) ∷ [])
 statements_of mnemonics.Mv names operands = do
-  it ← two_registers operands
-  Ok (statements.Inst (insts.OpImm Addi it.0 it.1 (pos 0)) ∷ [])
+  values ← two_registers operands
+  Ok (statements.Inst (insts.OpImm Addi values.0 values.1 (pos 0)) ∷ [])
 statements_of mnemonics.Li names operands = do
-  it ← register_word names operands
-  Ok (map (λ inst. statements.Inst inst) (load_word it.0 it.1))
+  values ← register_word names operands
+  Ok (map (λ inst. statements.Inst inst) (load_word values.0 values.1))
 statements_of mnemonics.Jal names operands = do
-  it ← register_label operands
-  Ok (statements.Jal it.0 it.1 ∷ [])
+  values ← register_label operands
+  Ok (statements.Jal values.0 values.1 ∷ [])
 statements_of (mnemonics.Jump rd) names operands = do
-  it ← one_label operands
-  Ok (statements.Jal rd it ∷ [])
+  label ← one_label operands
+  Ok (statements.Jal rd label ∷ [])
 statements_of (mnemonics.Branch op) names operands = do
-  it ← registers_label operands
-  Ok (statements.Branch op it.0 it.1 it.2 ∷ [])
+  values ← registers_label operands
+  Ok (statements.Branch op values.0 values.1 values.2 ∷ [])
 statements_of mnemonics.La names operands = do
-  it ← register_label operands
-  Ok (statements.La it.0 it.1 ∷ [])
-statements_of mnemonics.Word names operands = judgment_of_list (map (word_value names) (pieces operands))
-statements_of mnemonics.Byte names operands = judgment_of_list (map (byte_value names) (pieces operands))
+  values ← register_label operands
+  Ok (statements.La values.0 values.1 ∷ [])
+statements_of mnemonics.Word names operands =
+    judgment_of_list (map (word_value names) (pieces operands))
+statements_of mnemonics.Byte names operands =
+    judgment_of_list (map (byte_value names) (pieces operands))
 statements_of mnemonics.Zero names operands = do
-  it ← zero_count names operands
-  Ok (statements.Zero it ∷ [])
+  count ← zero_count names operands
+  Ok (statements.Zero count ∷ [])

@@ -9,7 +9,7 @@ use Rattle.rv_model.specs.declared.inst.ImmOp.TheVariants.{Addi, Slti, Sltiu, Xo
 use Rattle.rv_model.specs.declared.inst.RegOp.TheVariants.{Add, Sll, Slt, Sltu, Xor, Srl, Or, And, Sub, Sra}
 use Rattle.rv_asm.specs.declared.mnemonic.Mnemonic.{Mnemonic}
 use Rattle.rv_asm.specs.declared.mnemonic.Mnemonic.TheVariants as mnemonics
-use Rattle.ce_text.specs.Table.{look_up}
+use Rattle.ce_text.specs.Table.{table_value}
 
 -- each mnemonic and directive by its text
 unfoldable pub mnemonic_table : List (List ℕ × Mnemonic)
@@ -68,4 +68,4 @@ mnemonic_table =
 
 -- the mnemonic or directive with this text
 unfoldable pub mnemonic_of : List ℕ → Option Mnemonic
-mnemonic_of text = look_up mnemonic_table text
+mnemonic_of text = table_value mnemonic_table text

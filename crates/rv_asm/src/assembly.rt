@@ -23,10 +23,10 @@ fn entry_of(symbols: &Symbols) -> u32
     }
 }
 
-/// The image that an assembly text describes (docs/ASSEMBLY.md), whose bytes are all loaded, or the first fault
-/// of the text. The first pass judges the lines in order, each for the kinds from `BadByte` to `TooLarge`; only
-/// where it finds no fault, the second judges them for `UnknownName` of a label and `TooFar`; `Entry` comes last.
-/// `Memory` may come at any point.
+/// The image that an assembly text describes (docs/ASSEMBLY.md), whose bytes are all loaded, or the
+/// first fault of the text. The first pass judges the lines in order, each for the kinds from
+/// `BadByte` to `TooLarge`; only where it finds no fault, the second judges them for `UnknownName`
+/// of a label and `TooFar`; `Entry` comes last. `Memory` may come at any point.
 pub fn assemble(alloc: Global, text: &[u8]) -> Result<Image, AsmFault>
     requires { length text.now < TEXT_LIMIT }
     ensures { IsAssemblyOf text.now result }

@@ -8,15 +8,16 @@ use std::alloc::{AllocError, AllocFailed};
 use std::fmt;
 use thiserror::Error;
 
-/// What is wrong with a line, in the order in which a line is judged: each kind is judged over the whole line
-/// before the next (docs/ASSEMBLY.md, "Faults").
+/// What is wrong with a line, in the order in which a line is judged: each kind is judged over the
+/// whole line before the next (docs/ASSEMBLY.md, "Faults").
 #[derive(Clone, Copy, Debug, PartialEq, Eq, PartialOrd, Ord)]
 pub enum AsmKind {
     /// A byte before any comment is neither a blank nor from 0x21 to 0x7E.
     BadByte,
     /// A label or a name of `.equ` stands for something already.
     NameTaken,
-    /// The first word is none of the language's, what stands before a colon is no name, or there is a second colon.
+    /// The first word is none of the language's, what stands before a colon is no name, or there is
+    /// a second colon.
     UnknownWord,
     /// There are too few or too many operands, or one has not the form that belongs in its place.
     Operands,
@@ -74,7 +75,7 @@ impl fmt::Display for AsmKind {
 }
 
 /// What operands are judged to be, or the kind of their fault.
-pub type Judged<T> = Result<T, AsmKind>;
+pub type Judgment<T> = Result<T, AsmKind>;
 
 /// The first fault of a text.
 #[derive(Clone, Copy, Debug, PartialEq, Eq, Error)]
@@ -97,7 +98,7 @@ impl Halt {
     ghost use Rattle.rv_asm.specs.Faults.{halt_fault};
 
     /// As a fault of this line.
-    pub fn at(self, line: u32) -> AsmFault
+    pub fn fault_of_line(self, line: u32) -> AsmFault
         ensures { result ≡ halt_fault self line }
     {
         let kind = match self {

@@ -4,8 +4,8 @@ ghost use Rattle.std.specs.Prelude.{◌≡◌, ◌<◌, length, Some, option_map
 ghost use Rattle.ce_text.specs.declared.limits.TheConstants.{TEXT_LIMIT};
 ghost use Rattle.rv_asm.specs.Sizes.{size_of, lays_words};
 ghost use Rattle.rv_asm.specs.Sound.{IsSoundStatement, AreSound};
-ghost use Rattle.rv_asm.specs.LaidOut.{layout_view};
-ghost use Rattle.rv_asm.specs.FirstPass.{layout_with_statement, layout_with_all, layout_with_name, layout_with_number, layout_with_statements, statement, labelled_statement, line_laid, operands_of, HasLaid, first_pass};
+ghost use Rattle.rv_asm.specs.LayoutView.{layout_view};
+ghost use Rattle.rv_asm.specs.FirstPass.{layout_with_statement, layout_with_all, layout_with_name, layout_with_number, layout_with_statements, layout_with_statement_text, layout_with_labelled_statement, layout_with_line, operands_of, HasLaid, first_pass};
 ghost use Rattle.rv_asm.specs.Faults.{IsAllSeenAs};
 
 use crate::fault::{AsmFault, AsmKind, Halt};
@@ -18,7 +18,7 @@ use crate::symbols::{Symbol, Symbols};
 use ce_text::{
     are_plain, before_comment, cut_at, cut_at_blank, has_byte, next_line, without_outer_blanks,
 };
-use rv_model::{IMAGE_ROOM, PRIVATE_START};
+use rv_model::{IMAGE_ROOM, PRIVATE_START, WORD_SIZE};
 use std::alloc::Global;
 
 fn size_of(statement: &Statement<'_>) -> u32
@@ -27,8 +27,8 @@ fn size_of(statement: &Statement<'_>) -> u32
     match statement {
         Statement::Byte(_) => 1,
         Statement::Zero(count) => *count,
-        Statement::La { .. } => 8,
-        _ => 4,
+        Statement::La { .. } => 2 * WORD_SIZE,
+        _ => WORD_SIZE,
     }
 }
 
@@ -48,33 +48,36 @@ fn operands_of(rest: Option<&[u8]>) -> &[u8]
 }
 
 impl<'a> Layout<'a> {
-    /// HasLaid one more statement, of this line. `Unaligned` where words would not stand at a multiple of 4, then
-    /// `TooLarge`.
+    /// Lays one more statement, of this line. `Unaligned` where words would not stand at a multiple
+    /// of 4, then `TooLarge`.
     #[tactic(auto, unfolding(crate::specs::FirstPass::layout_with_statement))]
-    fn place(&mut self, line: u32, statement: Statement<'a>) -> Result<(), Halt>
+    fn place(&mut self, line_number: u32, statement: Statement<'a>) -> Result<(), Halt>
         requires { IsSoundStatement statement }
         ensures { HasLaid result (layout_view self.new)
-            (layout_with_statement line (layout_view self.old) statement.entry) }
+            (layout_with_statement line_number (layout_view self.old) statement.entry) }
     {
-        if lays_words(&statement) && self.size % 4 != 0 {
+        if lays_words(&statement) && self.size % WORD_SIZE != 0 {
             return Err(Halt::Fault(AsmKind::Unaligned));
         }
         let size = size_of(&statement);
         if size > IMAGE_ROOM - self.size {
             return Err(Halt::Fault(AsmKind::TooLarge));
         }
-        self.statements.push(PlacedStatement { line, statement })?;
+        self.statements.push(PlacedStatement {
+            line: line_number,
+            statement,
+        })?;
         self.size += size;
         Ok(())
     }
 
-    fn place_all(&mut self, line: u32, statements: Vec<Statement<'a>>) -> Result<(), Halt>
+    fn place_all(&mut self, line_number: u32, statements: Vec<Statement<'a>>) -> Result<(), Halt>
         requires { AreSound statements.items }
         ensures { HasLaid result (layout_view self.new)
-            (layout_with_all line (layout_view self.old) statements.entry.items) }
+            (layout_with_all line_number (layout_view self.old) statements.entry.items) }
     {
         for statement in statements {
-            self.place(line, statement)?;
+            self.place(line_number, statement)?;
         }
         Ok(())
     }
@@ -94,7 +97,7 @@ impl<'a> Layout<'a> {
 
     /// `.equ name, n`
     #[tactic(auto, unfolding(crate::specs::FirstPass::layout_with_number))]
-    fn equ(&mut self, operands: &[u8]) -> Result<(), Halt>
+    fn define_number(&mut self, operands: &[u8]) -> Result<(), Halt>
         ensures { HasLaid result (layout_view self.new)
             (layout_with_number (layout_view self.old) operands.now) }
     {
@@ -109,20 +112,20 @@ impl<'a> Layout<'a> {
 
     /// A statement whose mnemonic or directive is another than `.equ`.
     #[tactic(auto, unfolding(crate::specs::FirstPass::layout_with_statements))]
-    fn lay(&mut self, line: u32, front: &[u8], operands: &'a [u8]) -> Result<(), Halt>
+    fn lay(&mut self, line_number: u32, front: &[u8], operands: &'a [u8]) -> Result<(), Halt>
         ensures { HasLaid result (layout_view self.new)
-            (layout_with_statements line (layout_view self.old) front.now operands.now) }
+            (layout_with_statements line_number (layout_view self.old) front.now operands.now) }
     {
         let mnemonic = mnemonic_of(front).ok_or(AsmKind::UnknownWord)?;
         let statements = statements_of(self.alloc, mnemonic, &self.symbols, operands)?;
-        self.place_all(line, statements)
+        self.place_all(line_number, statements)
     }
 
     /// What a line has behind its label: nothing, or a mnemonic and its operands.
-    #[tactic(auto, unfolding(crate::specs::FirstPass::statement))]
-    fn statement(&mut self, line: u32, bytes: &'a [u8]) -> Result<(), Halt>
+    #[tactic(auto, unfolding(crate::specs::FirstPass::layout_with_statement_text))]
+    fn lay_statement_text(&mut self, line_number: u32, bytes: &'a [u8]) -> Result<(), Halt>
         ensures { HasLaid result (layout_view self.new)
-            (statement line (layout_view self.old) bytes.now) }
+            (layout_with_statement_text line_number (layout_view self.old) bytes.now) }
     {
         if bytes.is_empty() {
             return Ok(());
@@ -132,15 +135,21 @@ impl<'a> Layout<'a> {
         }
         let (front, rest) = cut_at_blank(bytes);
         if front == b".equ".as_slice() {
-            self.equ(operands_of(rest))
+            self.define_number(operands_of(rest))
         } else {
-            self.lay(line, front, operands_of(rest))
+            self.lay(line_number, front, operands_of(rest))
         }
     }
 
-    fn labelled_statement(&mut self, line: u32, front: &'a [u8], rest: &'a [u8]) -> Result<(), Halt>
+    fn lay_labelled_statement(
+        &mut self,
+        line_number: u32,
+        front: &'a [u8],
+        rest: &'a [u8],
+    ) -> Result<(), Halt>
         ensures { HasLaid result (layout_view self.new)
-            (labelled_statement line (layout_view self.old) front.now (Some rest.now)) }
+            (layout_with_labelled_statement line_number (layout_view self.old) front.now
+            (Some rest.now)) }
     {
         let label = without_outer_blanks(front);
         if !is_name(label) {
@@ -148,14 +157,14 @@ impl<'a> Layout<'a> {
         }
         let address = PRIVATE_START + self.size;
         self.define(label, Symbol::Label(address))?;
-        self.statement(line, without_outer_blanks(rest))
+        self.lay_statement_text(line_number, without_outer_blanks(rest))
     }
 
     /// One line.
-    #[tactic(auto, unfolding(crate::specs::FirstPass::line_laid))]
-    fn line(&mut self, number: u32, bytes: &'a [u8]) -> Result<(), Halt>
+    #[tactic(auto, unfolding(crate::specs::FirstPass::layout_with_line))]
+    fn lay_line(&mut self, line_number: u32, bytes: &'a [u8]) -> Result<(), Halt>
         ensures { HasLaid result (layout_view self.new)
-            (line_laid number (layout_view self.old) bytes.now) }
+            (layout_with_line line_number (layout_view self.old) bytes.now) }
     {
         let code = before_comment(bytes);
         if !are_plain(code) {
@@ -163,8 +172,8 @@ impl<'a> Layout<'a> {
         }
         let (front, rest) = cut_at(code, b':');
         match rest {
-            None => self.statement(number, without_outer_blanks(front)),
-            Some(rest) => self.labelled_statement(number, front, rest),
+            None => self.lay_statement_text(line_number, without_outer_blanks(front)),
+            Some(rest) => self.lay_labelled_statement(line_number, front, rest),
         }
     }
 }
@@ -181,15 +190,15 @@ pub fn first_pass(alloc: Global, text: &[u8]) -> Result<Layout<'_>, AsmFault>
         statements: Vec::new(alloc),
         size: 0,
     };
-    let mut number: u32 = 0;
+    let mut line_number: u32 = 0;
     let mut rest = Some(text);
     while let Some(bytes) = rest {
-        let (front, after) = next_line(bytes);
-        number += 1;
-        if let Err(halt) = layout.line(number, front) {
-            return Err(halt.at(number));
+        let (front, others) = next_line(bytes);
+        line_number += 1;
+        if let Err(halt) = layout.lay_line(line_number, front) {
+            return Err(halt.fault_of_line(line_number));
         }
-        rest = after;
+        rest = others;
     }
     Ok(layout)
 }

@@ -6,7 +6,7 @@ ghost use Rattle.ce_text.specs.Names.{meanings_of};
 ghost use Rattle.rv_asm.specs.Operand.{wrapped_word, byte_of};
 ghost use Rattle.rv_asm.specs.Statements.{register_upper, register_memory, immediate, registers_immediate, three_registers, register_label, registers_label};
 
-use crate::fault::Judged;
+use crate::fault::Judgment;
 use crate::label::Label;
 use crate::operand::{
     memory, name_piece, number, number_in_range, pair, register, three_pieces, twelve_bits,
@@ -31,7 +31,7 @@ pub fn byte_of(number: i64) -> u8
 
 /// `rd, n` with n from 0 to `GREATEST_UPPER`, which is bits 31..12.
 #[tactic(auto, unfolding(crate::specs::Statements::register_upper))]
-pub fn register_upper(symbols: &Symbols, operands: &[u8]) -> Judged<(u8, u32)>
+pub fn register_upper(symbols: &Symbols, operands: &[u8]) -> Judgment<(u8, u32)>
     ensures value { result ≡ register_upper (meanings_of symbols.now) operands.now }
     ensures small { IfOk result (λ it. IsRegister it.0 × IsUpper it.1) }
 {
@@ -45,7 +45,7 @@ pub fn register_upper(symbols: &Symbols, operands: &[u8]) -> Judged<(u8, u32)>
 
 /// `rd, n(rs1)`, as rd, n and rs1.
 #[tactic(auto, unfolding(crate::specs::Statements::register_memory))]
-pub fn register_memory(symbols: &Symbols, operands: &[u8]) -> Judged<(u8, i32, u8)>
+pub fn register_memory(symbols: &Symbols, operands: &[u8]) -> Judgment<(u8, i32, u8)>
     ensures value { result ≡ register_memory (meanings_of symbols.now) operands.now }
     ensures small { IfOk result (λ it. IsRegister it.0 × IsTwelveBits it.1 × IsRegister it.2) }
 {
@@ -54,9 +54,10 @@ pub fn register_memory(symbols: &Symbols, operands: &[u8]) -> Judged<(u8, i32, u
     Ok((rd, n as i32, rs1))
 }
 
-/// The number of an operation on a register and a number: a shift amount, or a number of twelve bits.
+/// The number of an operation on a register and a number: a shift amount, or a number of twelve
+/// bits.
 #[tactic(auto, unfolding(crate::specs::Statements::immediate, crate::specs::Operand::twelve_bits))]
-fn immediate(symbols: &Symbols, op: ImmOp, piece: &[u8]) -> Judged<i64>
+fn immediate(symbols: &Symbols, op: ImmOp, piece: &[u8]) -> Judgment<i64>
     ensures value { result ≡ immediate (meanings_of symbols.now) op piece.now }
     ensures fits { IfOk result (IsImmediateOf op) }
     ensures small { IfOk result IsTwelveBits }
@@ -71,7 +72,7 @@ fn immediate(symbols: &Symbols, op: ImmOp, piece: &[u8]) -> Judged<i64>
 
 /// `rd, rs1, n` of an operation on a register and a number.
 #[tactic(auto, unfolding(crate::specs::Statements::registers_immediate))]
-pub fn registers_immediate(symbols: &Symbols, op: ImmOp, operands: &[u8]) -> Judged<(u8, u8, i32)>
+pub fn registers_immediate(symbols: &Symbols, op: ImmOp, operands: &[u8]) -> Judgment<(u8, u8, i32)>
     ensures value { result ≡ registers_immediate (meanings_of symbols.now) op operands.now }
     ensures small { IfOk result (λ it. IsRegister it.0 × IsRegister it.1 × IsImmediateOf op it.2) }
 {
@@ -82,7 +83,7 @@ pub fn registers_immediate(symbols: &Symbols, op: ImmOp, operands: &[u8]) -> Jud
 
 /// `rd, rs1, rs2`
 #[tactic(auto, unfolding(crate::specs::Statements::three_registers))]
-pub fn three_registers(operands: &[u8]) -> Judged<(u8, u8, u8)>
+pub fn three_registers(operands: &[u8]) -> Judgment<(u8, u8, u8)>
     ensures value { result ≡ three_registers operands.now }
     ensures small { IfOk result (λ it. IsRegister it.0 × IsRegister it.1 × IsRegister it.2) }
 {
@@ -93,22 +94,22 @@ pub fn three_registers(operands: &[u8]) -> Judged<(u8, u8, u8)>
 
 /// `rd, label`
 #[tactic(auto, unfolding(crate::specs::Statements::register_label))]
-pub fn register_label(operands: &[u8]) -> Judged<(u8, Label<'_>)>
+pub fn register_label(operands: &[u8]) -> Judgment<(u8, Label<'_>)>
     ensures value { result ≡ register_label operands.now }
     ensures small { IfOk result (λ it. IsRegister it.0) }
 {
     let (rd, label) = two_pieces(operands)?;
     let (rd, ()) = pair(register(rd), name_piece(label))?;
-    Ok((rd, Label::of(label)))
+    Ok((rd, Label::from_bytes(label)))
 }
 
 /// `rs1, rs2, label`
 #[tactic(auto, unfolding(crate::specs::Statements::registers_label))]
-pub fn registers_label(operands: &[u8]) -> Judged<(u8, u8, Label<'_>)>
+pub fn registers_label(operands: &[u8]) -> Judgment<(u8, u8, Label<'_>)>
     ensures value { result ≡ registers_label operands.now }
     ensures small { IfOk result (λ it. IsRegister it.0 × IsRegister it.1) }
 {
     let (rs1, rs2, label) = three_pieces(operands)?;
     let ((rs1, rs2), ()) = pair(pair(register(rs1), register(rs2)), name_piece(label))?;
-    Ok((rs1, rs2, Label::of(label)))
+    Ok((rs1, rs2, Label::from_bytes(label)))
 }

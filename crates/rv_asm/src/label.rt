@@ -18,7 +18,7 @@ impl<'a> Model for Label<'a> {
 
 impl<'a> Label<'a> {
     /// The label with these bytes.
-    pub fn of(bytes: &'a [u8]) -> Label<'a>
+    pub fn from_bytes(bytes: &'a [u8]) -> Label<'a>
         ensures { result ≡ bytes.now }
     {
         Label(bytes)

@@ -1,4 +1,5 @@
-//! A two-pass assembler for RV32I. Every text that is refused has one fault, with its line and kind.
+//! A two-pass assembler for RV32I. Every text that is refused has one fault, with its line and
+//! kind.
 #![tactic(auto)]
 
 mod assembly;

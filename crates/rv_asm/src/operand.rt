@@ -7,7 +7,7 @@ ghost use Rattle.rv_asm.specs.Line.{pieces, comma_pieces};
 ghost use Rattle.ce_text.specs.Names.{meanings_of};
 ghost use Rattle.rv_asm.specs.Operand.{IsViewOf, no_piece, one_piece, two_pieces, three_pieces, register, number, number_in_range, name_piece, twelve_bits, bracket_operand, memory};
 
-use crate::fault::{AsmKind, Judged};
+use crate::fault::{AsmKind, Judgment};
 use crate::line::is_token;
 use crate::literal::literal_of;
 use crate::name::is_name;
@@ -18,7 +18,7 @@ use rv_model::{GREATEST_IMMEDIATE, LEAST_IMMEDIATE};
 
 /// Two judgments of one line: both values, or the fault whose kind is judged first.
 #[tactic(auto, unfolding(crate::specs::Faults::pair_judgment))]
-pub fn pair<A: Drop, B: Drop>(first: Judged<A>, second: Judged<B>) -> Judged<(A, B)>
+pub fn pair<A: Drop, B: Drop>(first: Judgment<A>, second: Judgment<B>) -> Judgment<(A, B)>
     ensures joined { result ≡ pair_judgment first second }
     ensures parts { IfOk result (λ pair. (first ≡ Ok pair.0) × (second ≡ Ok pair.1)) }
 {
@@ -30,7 +30,7 @@ pub fn pair<A: Drop, B: Drop>(first: Judged<A>, second: Judged<B>) -> Judged<(A,
 }
 
 /// `Operands` where there is an operand.
-pub fn no_piece(operands: &[u8]) -> Judged<()>
+pub fn no_piece(operands: &[u8]) -> Judgment<()>
     ensures { result ≡ no_piece operands.now }
 {
     match operands {
@@ -51,7 +51,7 @@ pub fn first_piece(operands: &[u8]) -> (&[u8], Option<&[u8]>)
 
 /// The one operand, and `Operands` where there are more.
 #[tactic(auto, using(crate::proofs::Pieces::one_alone, crate::proofs::Pieces::one_more))]
-pub fn one_piece(operands: &[u8]) -> Judged<&[u8]>
+pub fn one_piece(operands: &[u8]) -> Judgment<&[u8]>
     ensures { IsViewOf (λ piece. piece.now) result (one_piece operands.now) }
 {
     match first_piece(operands) {
@@ -62,7 +62,7 @@ pub fn one_piece(operands: &[u8]) -> Judged<&[u8]>
 
 /// The two operands, and `Operands` where there are fewer or more.
 #[tactic(auto, using(crate::proofs::Pieces::two_alone, crate::proofs::Pieces::two_more, crate::proofs::Pieces::two_wrong))]
-pub fn two_pieces(operands: &[u8]) -> Judged<(&[u8], &[u8])>
+pub fn two_pieces(operands: &[u8]) -> Judgment<(&[u8], &[u8])>
     ensures { IsViewOf (λ parts. (parts.0.now, parts.1.now)) result (two_pieces operands.now) }
 {
     match first_piece(operands) {
@@ -76,7 +76,7 @@ pub fn two_pieces(operands: &[u8]) -> Judged<(&[u8], &[u8])>
 
 /// The three operands, and `Operands` where there are fewer or more.
 #[tactic(auto, using(crate::proofs::Pieces::three_alone, crate::proofs::Pieces::three_more, crate::proofs::Pieces::three_wrong))]
-pub fn three_pieces(operands: &[u8]) -> Judged<(&[u8], &[u8], &[u8])>
+pub fn three_pieces(operands: &[u8]) -> Judgment<(&[u8], &[u8], &[u8])>
     ensures { IsViewOf (λ parts. (parts.0.now, parts.1.now, parts.2.now)) result
         (three_pieces operands.now) }
 {
@@ -91,7 +91,7 @@ pub fn three_pieces(operands: &[u8]) -> Judged<(&[u8], &[u8], &[u8])>
 
 /// A register. `Operands` where the operand is not one token, then `BadRegister`.
 #[tactic(auto, unfolding(crate::specs::Operand::register))]
-pub fn register(piece: &[u8]) -> Judged<u8>
+pub fn register(piece: &[u8]) -> Judgment<u8>
     ensures value { result ≡ register piece.now }
     ensures small { IfOk result IsRegister }
 {
@@ -106,7 +106,7 @@ pub fn register(piece: &[u8]) -> Judged<u8>
 
 /// A number. `Operands` where the operand is not one token, then `BadNumber`, then `UnknownName`.
 #[tactic(auto, unfolding(crate::specs::Operand::number))]
-pub fn number(symbols: &Symbols, piece: &[u8]) -> Judged<i64>
+pub fn number(symbols: &Symbols, piece: &[u8]) -> Judgment<i64>
     ensures { result ≡ number (meanings_of symbols.now) piece.now }
 {
     if !is_token(piece) {
@@ -123,12 +123,12 @@ pub fn number(symbols: &Symbols, piece: &[u8]) -> Judged<i64>
 
 /// A number that is judged to lie in a range, and `BadNumber` where it does not.
 #[tactic(auto, unfolding(crate::specs::Operand::number_in_range))]
-pub fn number_in_range(low: i64, high: i64, judged: Judged<i64>) -> Judged<i64>
-    ensures value { result ≡ number_in_range low high judged }
+pub fn number_in_range(low: i64, high: i64, judgment: Judgment<i64>) -> Judgment<i64>
+    ensures value { result ≡ number_in_range low high judgment }
     ensures least { IfOk result (λ number. low ≤ℤ number) }
     ensures greatest { IfOk result (λ number. number ≤ℤ high) }
 {
-    let number = judged?;
+    let number = judgment?;
     if low <= number && number <= high {
         Ok(number)
     } else {
@@ -138,7 +138,7 @@ pub fn number_in_range(low: i64, high: i64, judged: Judged<i64>) -> Judged<i64>
 
 /// `Operands` where an operand has not the form of a name.
 #[tactic(auto, unfolding(crate::specs::Operand::name_piece))]
-pub fn name_piece(piece: &[u8]) -> Judged<()>
+pub fn name_piece(piece: &[u8]) -> Judgment<()>
     ensures { result ≡ name_piece piece.now }
 {
     if is_name(piece) {
@@ -150,7 +150,7 @@ pub fn name_piece(piece: &[u8]) -> Judged<()>
 
 /// A number of twelve bits.
 #[tactic(auto, unfolding(crate::specs::Operand::twelve_bits))]
-pub fn twelve_bits(symbols: &Symbols, piece: &[u8]) -> Judged<i64>
+pub fn twelve_bits(symbols: &Symbols, piece: &[u8]) -> Judgment<i64>
     ensures value { result ≡ twelve_bits (meanings_of symbols.now) piece.now }
     ensures small { IfOk result IsTwelveBits }
 {
@@ -161,11 +161,11 @@ pub fn twelve_bits(symbols: &Symbols, piece: &[u8]) -> Judged<i64>
     )
 }
 
-fn bracket_operand(symbols: &Symbols, front: &[u8], behind: &[u8]) -> Judged<(i64, u8)>
-    ensures value { result ≡ bracket_operand (meanings_of symbols.now) front.now (Some behind.now) }
+fn bracket_operand(symbols: &Symbols, front: &[u8], inside: &[u8]) -> Judgment<(i64, u8)>
+    ensures value { result ≡ bracket_operand (meanings_of symbols.now) front.now (Some inside.now) }
     ensures small { IfOk result (λ it. IsTwelveBits it.0 × IsRegister it.1) }
 {
-    let (inner, rest) = cut_at(behind, b')');
+    let (inner, rest) = cut_at(inside, b')');
     match rest {
         None => Err(AsmKind::Operands),
         Some(rest) => {
@@ -182,12 +182,12 @@ fn bracket_operand(symbols: &Symbols, front: &[u8], behind: &[u8]) -> Judged<(i6
 
 /// `n(rs1)`: a number of twelve bits, and a register.
 #[tactic(auto, unfolding(crate::specs::Operand::memory))]
-pub fn memory(symbols: &Symbols, piece: &[u8]) -> Judged<(i64, u8)>
+pub fn memory(symbols: &Symbols, piece: &[u8]) -> Judgment<(i64, u8)>
     ensures value { result ≡ memory (meanings_of symbols.now) piece.now }
     ensures small { IfOk result (λ it. IsTwelveBits it.0 × IsRegister it.1) }
 {
     match cut_at(piece, b'(') {
         (_, None) => Err(AsmKind::Operands),
-        (front, Some(behind)) => bracket_operand(symbols, front, behind),
+        (front, Some(inside)) => bracket_operand(symbols, front, inside),
     }
 }

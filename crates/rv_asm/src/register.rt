@@ -6,9 +6,11 @@ ghost use Rattle.rv_asm.specs.Register.{register_names, named_register};
 ghost use Rattle.rv_asm.specs.Places.{register_number};
 
 use crate::table::place_of;
+use rv_model::REGISTER_COUNT;
 
-/// The names of the RISC-V calling convention by number, then `fp`, which is a second name of `s0`, then the numbers.
-const NAMES: [&str; 65] = [
+/// The names of the RISC-V calling convention by number, then `fp`, which is a second name of `s0`,
+/// then the numbers.
+const NAMES: [&str; 2 * REGISTER_COUNT + 1] = [
     "zero", "ra", "sp", "gp", "tp", "t0", "t1", "t2", "s0", "s1", "a0", "a1", "a2", "a3", "a4",
     "a5", "a6", "a7", "s2", "s3", "s4", "s5", "s6", "s7", "s8", "s9", "s10", "s11", "t3", "t4",
     "t5", "t6", "fp", "x0", "x1", "x2", "x3", "x4", "x5", "x6", "x7", "x8", "x9", "x10", "x11",
@@ -33,9 +35,11 @@ fn number_at(place: usize) -> u8
     ensures value { result ≡ register_number place }
     ensures small { IsRegister result }
 {
-    match place {
-        0..=31 => place as u8,
-        32 => 8,
-        _ => (place - 33) as u8,
+    if place < REGISTER_COUNT {
+        place as u8
+    } else if place == REGISTER_COUNT {
+        8
+    } else {
+        (place - (REGISTER_COUNT + 1)) as u8
     }
 }

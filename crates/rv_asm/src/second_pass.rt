@@ -12,7 +12,7 @@ ghost use Rattle.rv_asm.specs.SecondPass.{Instruction, address_of, offset_to, pa
 ghost use Rattle.rv_asm.specs.Spelling.{HasAppended, AreGivenParts};
 ghost use Rattle.rv_asm.specs.declared.statement.Statement.TheVariants as statements;
 
-use crate::fault::{AsmFault, AsmKind, Halt, Judged};
+use crate::fault::{AsmFault, AsmKind, Halt, Judgment};
 use crate::label::Label;
 use crate::layout::Layout;
 use crate::statement::{Statement, two_instructions};
@@ -23,7 +23,7 @@ use std::alloc::{AllocError, Global};
 
 /// The address of a label, and `UnknownName` where no line has it.
 #[tactic(auto, unfolding(crate::specs::SecondPass::address_of))]
-fn address_of(symbols: &Symbols, label: &Label<'_>) -> Judged<u32>
+fn address_of(symbols: &Symbols, label: &Label<'_>) -> Judgment<u32>
     ensures { result ≡ address_of (meanings_of symbols.now) label.now }
 {
     match symbols.meaning(label.as_slice()) {
@@ -32,9 +32,10 @@ fn address_of(symbols: &Symbols, label: &Label<'_>) -> Judged<u32>
     }
 }
 
-/// How far a target lies from an instruction, and `TooFar` where that is odd or not from -reach to reach - 1.
+/// How far a target lies from an instruction, and `TooFar` where that is odd or not from -reach to
+/// reach - 1.
 #[tactic(auto, unfolding(crate::specs::SecondPass::offset_to))]
-fn offset_to(reach: u32, address: u32, target: u32) -> Judged<i32>
+fn offset_to(reach: u32, address: u32, target: u32) -> Judgment<i32>
     requires { reach ≤ JUMP_REACH }
     ensures value { result ≡ offset_to reach address target }
     ensures even { IfOk result IsEven }
@@ -135,7 +136,7 @@ pub fn second_pass(alloc: Global, layout: &Layout<'_>) -> Result<Vec<u8>, AsmFau
     let mut out = Vec::new(alloc);
     for placed in &layout.statements {
         if let Err(halt) = put_statement(&mut out, &layout.symbols, &placed.statement) {
-            return Err(halt.at(placed.line));
+            return Err(halt.fault_of_line(placed.line));
         }
     }
     Ok(out)

@@ -3,7 +3,7 @@
 ghost use Rattle.std.specs.Prelude.{◌≡◌, ◌∷◌, [], map, IfOk, Ok};
 ghost use Rattle.rv_inst.specs.Valid.{IsTwelveBits, IsUpper, IsValid};
 ghost use Rattle.rv_asm.specs.Sound.{IsSoundMnemonic, IsSoundStatement, AreSound};
-ghost use Rattle.rv_asm.specs.Faults.{IsSeenAs, judgment_of_list, with_judged};
+ghost use Rattle.rv_asm.specs.Faults.{IsSeenAs, judgment_of_list, with_judgment};
 ghost use Rattle.ce_text.specs.Names.{meanings_of};
 ghost use Rattle.rv_asm.specs.Statements.{low_part, high_part, two_instructions, is_short, load_word, word_value, byte_value, statements_of};
 ghost use Rattle.rv_asm.specs.Line.{pieces};
@@ -12,7 +12,7 @@ ghost use Rattle.rv_model.specs.declared.inst.Inst.TheVariants as insts;
 ghost use Rattle.rv_model.specs.declared.inst.ImmOp.TheVariants.{Addi};
 ghost use Rattle.rv_asm.specs.declared.statement.Statement.TheVariants as statements;
 
-use crate::fault::{AsmKind, Halt, Judged};
+use crate::fault::{AsmKind, Halt, Judgment};
 use crate::forms::{
     byte_of, register_label, register_memory, register_upper, registers_immediate, registers_label,
     three_registers, word_of,
@@ -38,7 +38,8 @@ pub const LEAST_BYTE: i64 = -128;
 /// The greatest number of a `.byte`.
 pub const GREATEST_BYTE: i64 = 255;
 
-/// What is laid at one place. `.word a, b` is laid as `.word a` and `.word b`, and `li` as its instructions.
+/// What is laid at one place. `.word a, b` is laid as `.word a` and `.word b`, and `li` as its
+/// instructions.
 #[derive(Debug, Drop)]
 pub enum Statement<'a> {
     /// An instruction.
@@ -97,7 +98,7 @@ fn low_part(word: u32) -> i32
     }
 }
 
-/// What is left of a word without its low part, modulo 2^32: a multiple of 4,096.
+/// What is left of a word without its low part, modulo 2^32: a multiple of `UPPER_UNIT`.
 fn high_part(word: u32) -> u32
     ensures value { result ≡ high_part word }
     ensures upper { IsUpper result }
@@ -158,7 +159,7 @@ fn load_word<'a>(alloc: Global, rd: Register, word: u32) -> Result<Vec<Statement
 
 /// An operand of `.word`: a number, or a name that is none so far, which is a label.
 #[tactic(auto, unfolding(crate::specs::Statements::word_value))]
-fn word_value<'a>(symbols: &Symbols, piece: &'a [u8]) -> Judged<Statement<'a>>
+fn word_value<'a>(symbols: &Symbols, piece: &'a [u8]) -> Judgment<Statement<'a>>
     ensures value { result ≡ word_value (meanings_of symbols.now) piece.now }
     ensures sound { IfOk result IsSoundStatement }
 {
@@ -171,13 +172,13 @@ fn word_value<'a>(symbols: &Symbols, piece: &'a [u8]) -> Judged<Statement<'a>>
     }
     match symbols.meaning(piece) {
         Some(Symbol::Number(number)) => Ok(Statement::Word(word_of(number))),
-        Some(Symbol::Label(_)) | None => Ok(Statement::Address(Label::of(piece))),
+        Some(Symbol::Label(_)) | None => Ok(Statement::Address(Label::from_bytes(piece))),
     }
 }
 
 /// An operand of `.word`, or one of `.byte`.
 #[tactic(auto, unfolding(crate::specs::Statements::byte_value))]
-fn datum_value<'a>(datum: Datum, symbols: &Symbols, piece: &'a [u8]) -> Judged<Statement<'a>>
+fn datum_value<'a>(datum: Datum, symbols: &Symbols, piece: &'a [u8]) -> Judgment<Statement<'a>>
     ensures value { result ≡ datum_value datum (meanings_of symbols.now) piece.now }
     ensures sound { IfOk result IsSoundStatement }
 {
@@ -190,16 +191,17 @@ fn datum_value<'a>(datum: Datum, symbols: &Symbols, piece: &'a [u8]) -> Judged<S
     }
 }
 
-/// One more judgment behind those of a line: the statement joins the list, or the fault is the one that is judged first.
-#[tactic(auto, unfolding(crate::specs::Faults::with_judged, crate::specs::Faults::pair_judgment))]
+/// One more judgment behind those of a line: the statement joins the list, or the fault is the one
+/// that is judged first.
+#[tactic(auto, unfolding(crate::specs::Faults::with_judgment, crate::specs::Faults::pair_judgment))]
 fn gather<'a>(
     list: &mut Vec<Statement<'a>>,
     fault: Option<AsmKind>,
-    value: Judged<Statement<'a>>,
+    value: Judgment<Statement<'a>>,
 ) -> Result<Option<AsmKind>, AllocError>
     requires { IfOk value IsSoundStatement }
     ensures more { IfOk result (λ next. list_judgment next list.new.items
-        ≡ with_judged (list_judgment fault list.old.items) value.entry) }
+        ≡ with_judgment (list_judgment fault list.old.items) value.entry) }
     ensures sound { IfOk result (λ next. AreSound list.old.items → AreSound list.new.items) }
 {
     match value {
@@ -230,10 +232,10 @@ fn data<'a>(
     let mut fault = None;
     let mut rest = Some(operands);
     while let Some(bytes) = rest {
-        let (piece, after) = first_piece(bytes);
+        let (piece, others) = first_piece(bytes);
         let value = datum_value(datum, symbols, piece);
         fault = gather(&mut list, fault, value)?;
-        rest = after;
+        rest = others;
     }
     match fault {
         None => Ok(list),
@@ -241,8 +243,8 @@ fn data<'a>(
     }
 }
 
-/// What a mnemonic and its operands lay, one after the other. The faults are judged in the order Operands, BadRegister,
-/// BadNumber, UnknownName.
+/// What a mnemonic and its operands lay, one after the other. The faults are judged in the order
+/// Operands, BadRegister, BadNumber, UnknownName.
 #[tactic(auto, unfolding(crate::specs::Statements::statements_of, crate::specs::Statements::two_registers, crate::specs::Statements::register_word, crate::specs::Statements::one_label, crate::specs::Statements::zero_count))]
 pub fn statements_of<'a>(
     alloc: Global,
@@ -300,7 +302,7 @@ pub fn statements_of<'a>(
         Mnemonic::Jump { rd } => {
             let label = one_piece(operands)?;
             name_piece(label)?;
-            let label = Label::of(label);
+            let label = Label::from_bytes(label);
             one(alloc, Statement::Jal { rd, label })
         }
         Mnemonic::Branch(op) => {

@@ -169,7 +169,8 @@ fn data(rt: HostRuntime) -> Result<(), Fail> {
     )
 }
 
-/// Whole programs: one that sends, one that receives for ever, one that waits for a message and leaves.
+/// Whole programs: one that sends, one that receives for ever, one that waits for a message and
+/// leaves.
 #[test]
 fn programs(rt: HostRuntime) -> Result<(), Fail> {
     let alloc = rt.alloc();
@@ -438,7 +439,8 @@ fn texts_of_kinds(rt: HostRuntime) -> Result<(), Fail> {
     Ok(())
 }
 
-/// A text of 1,048,576 bytes: 30,720 jumps, each with a label and to the label of another, and 69,632 labels more.
+/// A text of 1,048,576 bytes: 30,720 jumps, each with a label and to the label of another, and
+/// 69,632 labels more.
 fn long_text(alloc: Global) -> Result<String, Fail> {
     let mut text = String::new(alloc);
     for i in 0..30_720_u32 {

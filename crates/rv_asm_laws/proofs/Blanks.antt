@@ -7,7 +7,7 @@ use Rattle.std.proofs.lemmas.List.{map-append}
 use Rattle.std.proofs.lemmas.List.Folds.{list_all-append, list_any-append}
 use Rattle.std.proofs.lemmas.List.Splits.{slice_split-cons_yes, slice_split-cons_no}
 use Rattle.ce_text.specs.Bytes.{is_blank, is_hash, is_plain}
-use Rattle.ce_text.specs.Line.{cut_parts, without_outer_blanks, onto_trimmed, without_front_blanks, without_end_blanks, before_comment}
+use Rattle.ce_text.specs.Line.{cut_parts, without_outer_blanks, with_front_byte, without_front_blanks, without_end_blanks, before_comment}
 use Rattle.ce_text.proofs.Splitting.{split_cut, split_behind, cut_pieces}
 use Rattle.rv_asm.specs.declared.fault.AsmKind.{AsmKind}
 use Rattle.rv_asm.specs.declared.fault.AsmKind.TheVariants.{BadByte, UnknownWord, Operands}
@@ -18,9 +18,9 @@ use Rattle.rv_asm.specs.Names.{Names}
 use Rattle.rv_asm.specs.Faults.{◌>>=◌, refusal, pair_judgment}
 use Rattle.rv_asm.specs.Operand.{no_piece, one_piece, two_pieces, three_pieces, register, twelve_bits, memory, is_closed}
 use Rattle.rv_asm.specs.Statements.{register_upper, register_memory, registers_immediate, three_registers, two_registers, register_word, register_label, registers_label, one_label, zero_count, statements_of}
-use Rattle.rv_asm.specs.FirstPass.{LayoutSoFar, layout_with_number, layout_with_statements, operands_of, statement, labelled_statement, line_laid}
+use Rattle.rv_asm.specs.FirstPass.{LayoutSoFar, layout_with_number, layout_with_statements, operands_of, layout_with_statement_text, layout_with_labelled_statement, layout_with_line}
 use Rattle.rv_asm.proofs.Pieces.{pieces_cut}
-use Rattle.ce_text.proofs.CutParts.{in_front, at_end, cut_later, cut_front, cut_none, cut_end, cut_mark}
+use Rattle.ce_text.proofs.CutParts.{parts_with_front, parts_with_end, cut_later, cut_front, cut_none, cut_end, cut_mark}
 
 -- blanks, of which a text may have any number
 record AreBlanks (blanks : List ℕ) : Type 0 where
@@ -47,12 +47,12 @@ trimmed_front blanks bytes h = ap without_end_blanks (front_goes blanks bytes h)
 blanks_go : (blanks : List ℕ) → AreBlanks blanks → without_end_blanks blanks ≡ []
 unfolding without_end_blanks
 blanks_go [] h = refl
-blanks_go (byte ∷ blanks) h = ap (onto_trimmed byte) (blanks_go blanks (other_blanks byte blanks h)) ∙ rw (first_blank byte blanks h) refl
+blanks_go (byte ∷ blanks) h = ap (with_front_byte byte) (blanks_go blanks (other_blanks byte blanks h)) ∙ rw (first_blank byte blanks h) refl
 
 end_goes : (bytes blanks : List ℕ) → AreBlanks blanks → without_end_blanks (bytes ++ blanks) ≡ without_end_blanks bytes
 unfolding without_end_blanks
 end_goes [] blanks h = blanks_go blanks h
-end_goes (byte ∷ bytes) blanks h = ap (onto_trimmed byte) (end_goes bytes blanks h)
+end_goes (byte ∷ bytes) blanks h = ap (with_front_byte byte) (end_goes bytes blanks h)
 
 all_front : (blanks : List ℕ) → AreBlanks blanks → without_front_blanks blanks ≡ []
 unfolding without_front_blanks
@@ -123,66 +123,66 @@ not_closing : (byte : ℕ) → is_blank byte ≡ true → is_closing byte ≡ fa
 not_closing byte e = other_byte byte 41 (is_closing byte) refl refl e
 
 -- a line whose code has blanks in front of it, or behind it
-by_front : (number : ℕ) (laid : LayoutSoFar) (blanks : List ℕ) (parts : List ℕ × Option (List ℕ)) → AreBlanks blanks
-    → labelled_statement number laid (in_front blanks parts).0 (in_front blanks parts).1 ≡ labelled_statement number laid parts.0 parts.1
-by_front number laid blanks (front, None) h = ap (statement number laid) (trimmed_front blanks front h)
-by_front number laid blanks (front, Some rest) h = rw (trimmed_front blanks front h) refl
+by_front : (number : ℕ) (layout : LayoutSoFar) (blanks : List ℕ) (parts : List ℕ × Option (List ℕ)) → AreBlanks blanks
+    → layout_with_labelled_statement number layout (parts_with_front blanks parts).0 (parts_with_front blanks parts).1 ≡ layout_with_labelled_statement number layout parts.0 parts.1
+by_front number layout blanks (front, None) h = ap (layout_with_statement_text number layout) (trimmed_front blanks front h)
+by_front number layout blanks (front, Some rest) h = rw (trimmed_front blanks front h) refl
 
-by_end : (number : ℕ) (laid : LayoutSoFar) (blanks : List ℕ) (parts : List ℕ × Option (List ℕ)) → AreBlanks blanks
-    → labelled_statement number laid (at_end blanks parts).0 (at_end blanks parts).1 ≡ labelled_statement number laid parts.0 parts.1
-by_end number laid blanks (front, None) h = ap (statement number laid) (trimmed_end front blanks h)
-by_end number laid blanks (front, Some rest) h = rw (trimmed_end rest blanks h) refl
+by_end : (number : ℕ) (layout : LayoutSoFar) (blanks : List ℕ) (parts : List ℕ × Option (List ℕ)) → AreBlanks blanks
+    → layout_with_labelled_statement number layout (parts_with_end blanks parts).0 (parts_with_end blanks parts).1 ≡ layout_with_labelled_statement number layout parts.0 parts.1
+by_end number layout blanks (front, None) h = ap (layout_with_statement_text number layout) (trimmed_end front blanks h)
+by_end number layout blanks (front, Some rest) h = rw (trimmed_end rest blanks h) refl
 
 -- what the code of a line means
 meant : ℕ → LayoutSoFar → Bool → List ℕ × Option (List ℕ) → Result LayoutSoFar AsmKind
-meant number laid plain parts = refusal (not plain) BadByte >>= λ ok. labelled_statement number laid parts.0 parts.1
+meant number layout plain parts = refusal (not plain) BadByte >>= λ ok. layout_with_labelled_statement number layout parts.0 parts.1
 
-meant_line : (number : ℕ) (laid : LayoutSoFar) (line : List ℕ) → line_laid number laid line ≡ meant number laid (list_all is_plain (before_comment line)) (cut_parts is_colon (before_comment line))
-unfolding line_laid meant
-meant_line number laid line = refl
+meant_line : (number : ℕ) (layout : LayoutSoFar) (line : List ℕ) → layout_with_line number layout line ≡ meant number layout (list_all is_plain (before_comment line)) (cut_parts is_colon (before_comment line))
+unfolding layout_with_line meant
+meant_line number layout line = refl
 
-code_front : (number : ℕ) (laid : LayoutSoFar) (blanks code : List ℕ) → AreBlanks blanks
-    → meant number laid (list_all is_plain (blanks ++ code)) (cut_parts is_colon (blanks ++ code)) ≡ meant number laid (list_all is_plain code) (cut_parts is_colon code)
+code_front : (number : ℕ) (layout : LayoutSoFar) (blanks code : List ℕ) → AreBlanks blanks
+    → meant number layout (list_all is_plain (blanks ++ code)) (cut_parts is_colon (blanks ++ code)) ≡ meant number layout (list_all is_plain code) (cut_parts is_colon code)
 unfolding meant
-code_front number laid blanks code h =
+code_front number layout blanks code h =
     rw (plain_front blanks code h, cut_front is_colon blanks code (no_mark is_colon blanks not_colon h))
-    (ap (λ (it : Result LayoutSoFar AsmKind). refusal (not (list_all is_plain code)) BadByte >>= λ ok. it) (by_front number laid blanks (cut_parts is_colon code) h))
+    (ap (λ (it : Result LayoutSoFar AsmKind). refusal (not (list_all is_plain code)) BadByte >>= λ ok. it) (by_front number layout blanks (cut_parts is_colon code) h))
 
-code_end : (number : ℕ) (laid : LayoutSoFar) (blanks code : List ℕ) → AreBlanks blanks
-    → meant number laid (list_all is_plain (code ++ blanks)) (cut_parts is_colon (code ++ blanks)) ≡ meant number laid (list_all is_plain code) (cut_parts is_colon code)
+code_end : (number : ℕ) (layout : LayoutSoFar) (blanks code : List ℕ) → AreBlanks blanks
+    → meant number layout (list_all is_plain (code ++ blanks)) (cut_parts is_colon (code ++ blanks)) ≡ meant number layout (list_all is_plain code) (cut_parts is_colon code)
 unfolding meant
-code_end number laid blanks code h =
+code_end number layout blanks code h =
     rw (plain_end code blanks h, cut_end is_colon code blanks (no_mark is_colon blanks not_colon h))
-    (ap (λ (it : Result LayoutSoFar AsmKind). refusal (not (list_all is_plain code)) BadByte >>= λ ok. it) (by_end number laid blanks (cut_parts is_colon code) h))
+    (ap (λ (it : Result LayoutSoFar AsmKind). refusal (not (list_all is_plain code)) BadByte >>= λ ok. it) (by_end number layout blanks (cut_parts is_colon code) h))
 
-front_goes_line : (number : ℕ) (laid : LayoutSoFar) (blanks line : List ℕ) → AreBlanks blanks → line_laid number laid (blanks ++ line) ≡ line_laid number laid line
+front_goes_line : (number : ℕ) (layout : LayoutSoFar) (blanks line : List ℕ) → AreBlanks blanks → layout_with_line number layout (blanks ++ line) ≡ layout_with_line number layout line
 unfolding before_comment
-front_goes_line number laid blanks line h =
-    meant_line number laid (blanks ++ line)
-    ∙ ap (λ (parts : List ℕ × Option (List ℕ)). meant number laid (list_all is_plain parts.0) (cut_parts is_colon parts.0)) (cut_front is_hash blanks line (no_mark is_hash blanks not_hash h))
-    ∙ code_front number laid blanks (cut_parts is_hash line).0 h ∙ sym (meant_line number laid line)
+front_goes_line number layout blanks line h =
+    meant_line number layout (blanks ++ line)
+    ∙ ap (λ (parts : List ℕ × Option (List ℕ)). meant number layout (list_all is_plain parts.0) (cut_parts is_colon parts.0)) (cut_front is_hash blanks line (no_mark is_hash blanks not_hash h))
+    ∙ code_front number layout blanks (cut_parts is_hash line).0 h ∙ sym (meant_line number layout line)
 
-ends_by : (number : ℕ) (laid : LayoutSoFar) (blanks : List ℕ) (parts : List ℕ × Option (List ℕ)) → AreBlanks blanks
-    → meant number laid (list_all is_plain (at_end blanks parts).0) (cut_parts is_colon (at_end blanks parts).0) ≡ meant number laid (list_all is_plain parts.0) (cut_parts is_colon parts.0)
-ends_by number laid blanks (code, None) h = code_end number laid blanks code h
-ends_by number laid blanks (code, Some comment) h = refl
+ends_by : (number : ℕ) (layout : LayoutSoFar) (blanks : List ℕ) (parts : List ℕ × Option (List ℕ)) → AreBlanks blanks
+    → meant number layout (list_all is_plain (parts_with_end blanks parts).0) (cut_parts is_colon (parts_with_end blanks parts).0) ≡ meant number layout (list_all is_plain parts.0) (cut_parts is_colon parts.0)
+ends_by number layout blanks (code, None) h = code_end number layout blanks code h
+ends_by number layout blanks (code, Some comment) h = refl
 
-end_goes_line : (number : ℕ) (laid : LayoutSoFar) (line blanks : List ℕ) → AreBlanks blanks → line_laid number laid (line ++ blanks) ≡ line_laid number laid line
+end_goes_line : (number : ℕ) (layout : LayoutSoFar) (line blanks : List ℕ) → AreBlanks blanks → layout_with_line number layout (line ++ blanks) ≡ layout_with_line number layout line
 unfolding before_comment
-end_goes_line number laid line blanks h =
-    meant_line number laid (line ++ blanks)
-    ∙ ap (λ (parts : List ℕ × Option (List ℕ)). meant number laid (list_all is_plain parts.0) (cut_parts is_colon parts.0)) (cut_end is_hash line blanks (no_mark is_hash blanks not_hash h))
-    ∙ ends_by number laid blanks (cut_parts is_hash line) h ∙ sym (meant_line number laid line)
+end_goes_line number layout line blanks h =
+    meant_line number layout (line ++ blanks)
+    ∙ ap (λ (parts : List ℕ × Option (List ℕ)). meant number layout (list_all is_plain parts.0) (cut_parts is_colon parts.0)) (cut_end is_hash line blanks (no_mark is_hash blanks not_hash h))
+    ∙ ends_by number layout blanks (cut_parts is_hash line) h ∙ sym (meant_line number layout line)
 
-pub ends_go : (number : ℕ) (laid : LayoutSoFar) (before line after : List ℕ) → list_all is_blank before ≡ true → list_all is_blank after ≡ true → line_laid number laid (before ++ line ++ after) ≡ line_laid number laid line
-ends_go number laid before line after b a = end_goes_line number laid (before ++ line) after (record { all = a }) ∙ front_goes_line number laid before line (record { all = b })
+pub ends_go : (number : ℕ) (layout : LayoutSoFar) (before line after : List ℕ) → list_all is_blank before ≡ true → list_all is_blank after ≡ true → layout_with_line number layout (before ++ line ++ after) ≡ layout_with_line number layout line
+ends_go number layout before line after b a = end_goes_line number layout (before ++ line) after (record { all = a }) ∙ front_goes_line number layout before line (record { all = b })
 
 -- ---- round the colon
 
 code_behind : (front rest : List ℕ) → list_any is_hash front ≡ false → before_comment (front ++ 58 ∷ rest) ≡ front ++ 58 ∷ before_comment rest
 unfolding before_comment
 code_behind front rest e =
-    ap (λ (parts : List ℕ × Option (List ℕ)). parts.0) (cut_front is_hash front (58 ∷ rest) e ∙ ap (in_front front) (cut_later is_hash 58 rest refl))
+    ap (λ (parts : List ℕ × Option (List ℕ)). parts.0) (cut_front is_hash front (58 ∷ rest) e ∙ ap (parts_with_front front) (cut_later is_hash 58 rest refl))
 
 code_blanks : (blanks rest : List ℕ) → AreBlanks blanks → before_comment (blanks ++ rest) ≡ blanks ++ before_comment rest
 unfolding before_comment
@@ -195,11 +195,11 @@ plain_colon : (label before after code : List ℕ) → AreBlanks before → AreB
 plain_colon label before after code b a =
     list_all-append is_plain (label ++ before) (58 ∷ (after ++ code)) ∙ rw (plain_end label before b, plain_front after code a) refl ∙ sym (list_all-append is_plain label (58 ∷ code))
 
-meant_colon : (number : ℕ) (laid : LayoutSoFar) (label before after code : List ℕ) → list_any is_colon label ≡ false → AreBlanks before → AreBlanks after
-    → meant number laid (list_all is_plain (label ++ before ++ 58 ∷ (after ++ code))) (cut_parts is_colon (label ++ before ++ 58 ∷ (after ++ code)))
-    ≡ meant number laid (list_all is_plain (label ++ 58 ∷ code)) (cut_parts is_colon (label ++ 58 ∷ code))
+meant_colon : (number : ℕ) (layout : LayoutSoFar) (label before after code : List ℕ) → list_any is_colon label ≡ false → AreBlanks before → AreBlanks after
+    → meant number layout (list_all is_plain (label ++ before ++ 58 ∷ (after ++ code))) (cut_parts is_colon (label ++ before ++ 58 ∷ (after ++ code)))
+    ≡ meant number layout (list_all is_plain (label ++ 58 ∷ code)) (cut_parts is_colon (label ++ 58 ∷ code))
 unfolding meant
-meant_colon number laid label before after code e b a =
+meant_colon number layout label before after code e b a =
     rw (
       plain_colon label before after code b a,
       cut_mark is_colon (label ++ before) 58 (after ++ code) (none_of_both is_colon label before e (no_mark is_colon before not_colon b)) refl,
@@ -208,9 +208,9 @@ meant_colon number laid label before after code e b a =
       trimmed_front after code a,
     ) refl
 
-pub colon_goes : (number : ℕ) (laid : LayoutSoFar) (label before after rest : List ℕ) → list_any is_hash label ≡ false → list_any is_colon label ≡ false → list_all is_blank before ≡ true → list_all is_blank after ≡ true
-    → line_laid number laid (label ++ before ++ 58 ∷ (after ++ rest)) ≡ line_laid number laid (label ++ 58 ∷ rest)
-colon_goes number laid label before after rest hash colon b a =
+pub colon_goes : (number : ℕ) (layout : LayoutSoFar) (label before after rest : List ℕ) → list_any is_hash label ≡ false → list_any is_colon label ≡ false → list_all is_blank before ≡ true → list_all is_blank after ≡ true
+    → layout_with_line number layout (label ++ before ++ 58 ∷ (after ++ rest)) ≡ layout_with_line number layout (label ++ 58 ∷ rest)
+colon_goes number layout label before after rest hash colon b a =
     let before_blank : AreBlanks before = record { all = b } in
     let after_blank : AreBlanks after = record { all = a } in
     let code = before_comment rest in
@@ -218,23 +218,23 @@ colon_goes number laid label before after rest hash colon b a =
     code_behind (label ++ before) (after ++ rest) (none_of_both is_hash label before hash (no_mark is_hash before not_hash before_blank))
     ∙ ap (λ (bytes : List ℕ). label ++ before ++ 58 ∷ bytes) (code_blanks after rest after_blank)
     in
-    let judge = λ (bytes : List ℕ). meant number laid (list_all is_plain bytes) (cut_parts is_colon bytes) in
-    meant_line number laid (label ++ before ++ 58 ∷ (after ++ rest)) ∙ ap judge first
-    ∙ meant_colon number laid label before after code colon before_blank after_blank
-    ∙ ap judge (sym (code_behind label rest hash)) ∙ sym (meant_line number laid (label ++ 58 ∷ rest))
+    let judge = λ (bytes : List ℕ). meant number layout (list_all is_plain bytes) (cut_parts is_colon bytes) in
+    meant_line number layout (label ++ before ++ 58 ∷ (after ++ rest)) ∙ ap judge first
+    ∙ meant_colon number layout label before after code colon before_blank after_blank
+    ∙ ap judge (sym (code_behind label rest hash)) ∙ sym (meant_line number layout (label ++ 58 ∷ rest))
 
 -- ---- behind the word
 
 -- what a statement with a word means
 said : ℕ → LayoutSoFar → Bool → List ℕ × Option (List ℕ) → Result LayoutSoFar AsmKind
-said number laid colon parts =
-    refusal colon UnknownWord >>= λ ok. cond (bytes_eq parts.0 (codes ".equ")) (layout_with_number laid (operands_of parts.1)) (layout_with_statements number laid parts.0 (operands_of parts.1))
+said number layout colon parts =
+    refusal colon UnknownWord >>= λ ok. cond (bytes_eq parts.0 (codes ".equ")) (layout_with_number layout (operands_of parts.1)) (layout_with_statements number layout parts.0 (operands_of parts.1))
 
-said_so : (number : ℕ) (laid : LayoutSoFar) (word : List ℕ) (mark : ℕ) (rest : List ℕ)
-    → statement number laid (word ++ mark ∷ rest) ≡ said number laid (list_any is_colon (word ++ mark ∷ rest)) (cut_parts is_blank (word ++ mark ∷ rest))
-unfolding statement said
-said_so number laid [] mark rest = refl
-said_so number laid (byte ∷ word) mark rest = refl
+said_so : (number : ℕ) (layout : LayoutSoFar) (word : List ℕ) (mark : ℕ) (rest : List ℕ)
+    → layout_with_statement_text number layout (word ++ mark ∷ rest) ≡ said number layout (list_any is_colon (word ++ mark ∷ rest)) (cut_parts is_blank (word ++ mark ∷ rest))
+unfolding layout_with_statement_text said
+said_so number layout [] mark rest = refl
+said_so number layout (byte ∷ word) mark rest = refl
 
 any_behind : (word : List ℕ) (blank : ℕ) (blanks operands : List ℕ) → AreBlanks blanks → list_any is_colon (word ++ blank ∷ (blanks ++ operands)) ≡ list_any is_colon (word ++ blank ∷ operands)
 any_behind word blank blanks operands h =
@@ -242,14 +242,14 @@ any_behind word blank blanks operands h =
     ∙ ap (λ (any : Bool). list_any is_colon word || (is_colon blank || any)) (list_any-append is_colon blanks operands ∙ rw (no_mark is_colon blanks not_colon h) refl)
     ∙ sym (list_any-append is_colon word (blank ∷ operands))
 
-pub word_goes : (number : ℕ) (laid : LayoutSoFar) (word : List ℕ) (blank : ℕ) (blanks operands : List ℕ) → list_any is_blank word ≡ false → is_blank blank ≡ true → list_all is_blank blanks ≡ true
-    → statement number laid (word ++ blank ∷ (blanks ++ operands)) ≡ statement number laid (word ++ blank ∷ operands)
+pub word_goes : (number : ℕ) (layout : LayoutSoFar) (word : List ℕ) (blank : ℕ) (blanks operands : List ℕ) → list_any is_blank word ≡ false → is_blank blank ≡ true → list_all is_blank blanks ≡ true
+    → layout_with_statement_text number layout (word ++ blank ∷ (blanks ++ operands)) ≡ layout_with_statement_text number layout (word ++ blank ∷ operands)
 unfolding said
-word_goes number laid word blank blanks operands w b h =
+word_goes number layout word blank blanks operands w b h =
     let are : AreBlanks blanks = record { all = h } in
-    said_so number laid word blank (blanks ++ operands)
+    said_so number layout word blank (blanks ++ operands)
     ∙ rw (any_behind word blank blanks operands are, cut_mark is_blank word blank (blanks ++ operands) w b, trimmed_front blanks operands are, cut_mark is_blank word blank operands w b) refl
-    ∙ sym (said_so number laid word blank operands)
+    ∙ sym (said_so number layout word blank operands)
 
 -- ---- round a comma
 
@@ -356,7 +356,7 @@ comma_goes mnemonic names first before after second b a =
 bracketed : Names → List ℕ → List ℕ × Option (List ℕ) → Result (ℤ × ℕ) AsmKind
 bracketed names number parts = refusal (not (is_closed parts.1)) Operands >>= λ ok. pair_judgment (twelve_bits names number) (register (without_outer_blanks parts.0))
 
-inner : (names : Names) (number blanks : List ℕ) (parts : List ℕ × Option (List ℕ)) → AreBlanks blanks → bracketed names number (in_front blanks parts) ≡ bracketed names number parts
+inner : (names : Names) (number blanks : List ℕ) (parts : List ℕ × Option (List ℕ)) → AreBlanks blanks → bracketed names number (parts_with_front blanks parts) ≡ bracketed names number parts
 unfolding bracketed
 inner names number blanks (base, rest) h = rw (trimmed_front blanks base h) refl
 

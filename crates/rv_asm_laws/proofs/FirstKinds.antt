@@ -6,14 +6,14 @@ use Rattle.rv_asm.specs.Faults.{earlier_kind}
 use Rattle.rv_asm_laws.specs.Forms.{first_kind}
 
 -- the fault that is judged first, of two judgments of one line
-abbrev pub earliest : Option AsmKind → Option AsmKind → Option AsmKind
-earliest None second = second
-earliest (Some first) None = Some first
-earliest (Some first) (Some second) = Some (earlier_kind first second)
+abbrev pub earliest_kind : Option AsmKind → Option AsmKind → Option AsmKind
+earliest_kind None second = second
+earliest_kind (Some first) None = Some first
+earliest_kind (Some first) (Some second) = Some (earlier_kind first second)
 
 -- the kinds of two judgments are those of either, and the earlier of their first ones is the first
 pub first_kind-joined : (malformed register number name malformed' register' number' name' : Bool)
-    → earliest (first_kind malformed register number name) (first_kind malformed' register' number' name')
+    → earliest_kind (first_kind malformed register number name) (first_kind malformed' register' number' name')
     ≡ first_kind (malformed || malformed') (register || register') (number || number') (name || name')
 first_kind-joined true b c d true b' c' d' = refl
 first_kind-joined true b c d false true c' d' = refl

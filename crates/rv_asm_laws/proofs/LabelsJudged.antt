@@ -16,10 +16,10 @@ use Rattle.rv_asm.specs.Faults.{◌>>=◌, refusal}
 use Rattle.rv_asm.specs.Names.{Names}
 use Rattle.rv_asm.specs.Sizes.{size_of}
 use Rattle.rv_asm.specs.FirstPass.{judgment_at_line}
-use Rattle.rv_asm.specs.SecondPass.{Part, is_reached, address_meant, address_of, offset_to, parts_of, second_pass}
+use Rattle.rv_asm.specs.SecondPass.{Part, is_reached, address_judgment, address_of, offset_to, parts_of, second_pass}
 use Rattle.rv_asm_laws.specs.LabelFaults.{is_no_label, is_far, label_fault, numbered_label_fault, IsFirstLabelFault, HasLabels}
 
-plain_label : {A : Type 0} (meant : Option Symbol) (make : ℕ → A) → result_err (address_meant meant >>= λ target. Ok (make target)) ≡ cond (is_no_label meant) (Some UnknownName) None
+plain_label : {A : Type 0} (meant : Option Symbol) (make : ℕ → A) → result_err (address_judgment meant >>= λ target. Ok (make target)) ≡ cond (is_no_label meant) (Some UnknownName) None
 plain_label None make = refl
 plain_label (Some (Label address)) make = refl
 plain_label (Some (Number n)) make = refl
@@ -29,7 +29,7 @@ reached_by true offset make = refl
 reached_by false offset make = refl
 
 far_label : {A : Type 0} (reach address : ℕ) (meant : Option Symbol) (make : ℤ → A)
-    → result_err (address_meant meant >>= λ target. offset_to reach address target >>= λ it. Ok (make it)) ≡ cond (is_no_label meant) (Some UnknownName) (cond (is_far reach address meant) (Some TooFar) None)
+    → result_err (address_judgment meant >>= λ target. offset_to reach address target >>= λ it. Ok (make it)) ≡ cond (is_no_label meant) (Some UnknownName) (cond (is_far reach address meant) (Some TooFar) None)
 unfolding offset_to
 far_label reach address None make = refl
 far_label reach address (Some (Number n)) make = refl

@@ -14,7 +14,7 @@ use Rattle.rv_model.specs.declared.inst.ImmOp.TheVariants.{Addi, Slti, Sltiu, Xo
 use Rattle.rv_inst.specs.Valid.{IsValid, IsUpper, IsTwelveBits, IsImmediateOf}
 use Rattle.rv_image.specs.Fault.{is_entry}
 use Rattle.ce_text.specs.Bytes.{is_blank, is_plain}
-use Rattle.ce_text.specs.Line.{cut_parts, without_outer_blanks, line_texts, before_comment, onto_trimmed, without_front_blanks, without_end_blanks}
+use Rattle.ce_text.specs.Line.{cut_parts, without_outer_blanks, line_texts, before_comment, with_front_byte, without_front_blanks, without_end_blanks}
 use Rattle.rv_asm.specs.declared.fault.AsmKind.{AsmKind}
 use Rattle.rv_asm.specs.declared.mnemonic.Mnemonic.{Mnemonic}
 use Rattle.rv_asm.specs.declared.statement.Statement.{Statement}
@@ -22,20 +22,20 @@ use Rattle.rv_asm.specs.declared.statement.Statement.TheVariants as statements
 use Rattle.rv_asm.specs.declared.statement.PlacedStatement.{PlacedStatement}
 use Rattle.rv_asm.specs.Line.{is_colon, is_token, is_opening, is_closing, pieces}
 use Rattle.rv_asm.specs.Names.{Names, no_names}
-use Rattle.ce_text.specs.Table.{look_up}
+use Rattle.ce_text.specs.Table.{table_value}
 use Rattle.rv_asm.specs.Register.{register_names, named_register}
 use Rattle.rv_asm.specs.Words.{mnemonic_table, mnemonic_of}
 use Rattle.rv_asm.specs.Faults.{◌>>=◌, pair_judgment}
 use Rattle.rv_asm.specs.Operand.{no_piece, two_pieces, three_pieces, register, number, number_in_range, twelve_bits, memory, bracket_operand}
 use Rattle.rv_asm.specs.Sizes.{size_of}
 use Rattle.rv_asm.specs.Statements.{register_upper, register_memory, immediate, registers_immediate, three_registers, statements_of}
-use Rattle.rv_asm.specs.FirstPass.{LayoutSoFar, layout_of, nothing_laid, layout_with_statement, layout_with_all, layout_with_statements, statement, labelled_statement, line_laid, judgment_at_line, lines_laid, first_pass}
+use Rattle.rv_asm.specs.FirstPass.{LayoutSoFar, layout_of, empty_layout, layout_with_statement, layout_with_all, layout_with_statements, layout_with_statement_text, layout_with_labelled_statement, layout_with_line, judgment_at_line, layout_with_lines, first_pass}
 use Rattle.rv_asm.specs.SecondPass.{Instruction, parts_of, second_pass}
 use Rattle.rv_asm.specs.Assembly.{assembly_of}
 use Rattle.rv_asm_laws.specs.Before.{label_part, label_of}
-use Rattle.rv_asm_laws.specs.LineFaults.{statement_part, statement_text, word_in, operands_in}
-use Rattle.rv_asm_laws.specs.Forms.{is_bracketed, base_behind, operand_texts}
-use Rattle.rv_asm_laws.specs.Listing.{IsRegisterText, IsNumberText, IsUpperText, IsMemoryText, AreTwo, AreThree, AreOperandsOf, mnemonic_for, IsWrittenAs, IsEmptyLine, IsListing}
+use Rattle.rv_asm_laws.specs.LineFaults.{statement_part, statement_text, statement_word, statement_operands}
+use Rattle.rv_asm_laws.specs.Forms.{is_bracketed, base_part, operand_texts}
+use Rattle.rv_asm_laws.specs.Listing.{IsRegisterText, IsNumberText, IsUpperText, IsMemoryText, AreTwo, AreThree, AreOperandsOf, instruction_mnemonic, IsWrittenAs, IsEmptyLine, IsListing}
 use Rattle.rv_asm.proofs.Pieces.{pieces_cut}
 use Rattle.rv_asm.proofs.Assembling.{described}
 
@@ -50,12 +50,12 @@ token_by : (row : List ℕ) (text : List ℕ) (same : Bool) (n m : ℕ) (rest : 
 token_by row text true n m rest e t others h = subst (λ (bytes : List ℕ). is_token bytes ≡ true) ((bytes_decides row text).0 e) t
 token_by row text false n m rest e t others h = others h
 
-token_found : (rows : List (List ℕ × ℕ)) (text : List ℕ) (n : ℕ) → all_tokens rows ≡ true → look_up rows text ≡ Some n → is_token text ≡ true
+token_found : (rows : List (List ℕ × ℕ)) (text : List ℕ) (n : ℕ) → all_tokens rows ≡ true → table_value rows text ≡ Some n → is_token text ≡ true
 unfolding all_tokens
 token_found [] text n all h = absurd cc
 token_found (row ∷ rows) text n all h =
     let parts = and_parts (is_token row.0) (all_tokens rows) all in
-    token_by row.0 text (bytes_eq row.0 text) n row.1 (look_up rows text) refl parts.0 (token_found rows text n parts.1) h
+    token_by row.0 text (bytes_eq row.0 text) n row.1 (table_value rows text) refl parts.0 (token_found rows text n parts.1) h
 
 register_token : (n : ℕ) (text : List ℕ) → IsRegisterText n text → is_token text ≡ true
 unfolding named_register register_names all_tokens is_token
@@ -80,7 +80,7 @@ reads_ranged : (names : Names) (low high n : ℤ) (text : List ℕ) → low ≤�
 unfolding number_in_range
 reads_ranged names low high n text l h w = rw (reads_number names n text w, at_most low n l, at_most n high h) refl
 
-memory_by : (names : Names) (n : ℤ) (rs1 : ℕ) → IsTwelveBits n → (front : List ℕ) (rest : Option (List ℕ)) → is_bracketed rest ≡ true → IsNumberText n (without_outer_blanks front) → IsRegisterText rs1 (base_behind rest)
+memory_by : (names : Names) (n : ℤ) (rs1 : ℕ) → IsTwelveBits n → (front : List ℕ) (rest : Option (List ℕ)) → is_bracketed rest ≡ true → IsNumberText n (without_outer_blanks front) → IsRegisterText rs1 (base_part rest)
     → bracket_operand names front rest ≡ Ok (n, rs1)
 unfolding twelve_bits pair_judgment
 memory_by names n rs1 small front None e offset base = absurd cc
@@ -165,7 +165,7 @@ module _ (names : Names) (operands : List ℕ) where
       rw (pieces_of operands t.0 (t.1 ∷ t.2 ∷ []) t.3, reads_register rd t.0 t.4, reads_register rs1 t.1 t.5, reads_register rs2 t.2 t.6) refl
 
   -- what the operands of an instruction lay
-  reads : (inst : Inst) → IsValid inst → AreOperandsOf inst (operand_texts operands) → statements_of (mnemonic_for inst) names operands ≡ Ok (statements.Inst inst ∷ [])
+  reads : (inst : Inst) → IsValid inst → AreOperandsOf inst (operand_texts operands) → statements_of (instruction_mnemonic inst) names operands ≡ Ok (statements.Inst inst ∷ [])
   unfolding statements_of
   reads (insts.Lui rd imm) valid h = rw (reads_upper rd imm valid.1 h) refl
   reads (insts.Auipc rd imm) valid h = rw (reads_upper rd imm valid.1 h) refl
@@ -209,7 +209,7 @@ any_front test [] e = refl
 any_front test (byte ∷ bytes) e =
     any_if test (is_blank byte) (without_front_blanks bytes) (byte ∷ bytes) (any_front test bytes (or_parts (test byte) (list_any test bytes) e).1) e
 
-any_onto : (test : ℕ → Bool) (byte : ℕ) (rest : List ℕ) → test byte ≡ false → list_any test rest ≡ false → list_any test (onto_trimmed byte rest) ≡ false
+any_onto : (test : ℕ → Bool) (byte : ℕ) (rest : List ℕ) → test byte ≡ false → list_any test rest ≡ false → list_any test (with_front_byte byte rest) ≡ false
 any_onto test byte [] e h = any_if test (is_blank byte) [] (byte ∷ []) refl (rw e refl)
 any_onto test byte (next ∷ rest) e h = rw e h
 
@@ -249,19 +249,19 @@ behind_by : (front : List ℕ) (rest : Option (List ℕ)) → rest ≡ None → 
 behind_by front None e = refl
 behind_by front (Some rest) e = absurd cc
 
-labelled_by : (number : ℕ) (laid : LayoutSoFar) (front : List ℕ) (rest : Option (List ℕ)) → rest ≡ None → labelled_statement number laid front rest ≡ statement number laid (without_outer_blanks front)
-labelled_by number laid front None e = refl
-labelled_by number laid front (Some rest) e = absurd cc
+labelled_by : (number : ℕ) (layout : LayoutSoFar) (front : List ℕ) (rest : Option (List ℕ)) → rest ≡ None → layout_with_labelled_statement number layout front rest ≡ layout_with_statement_text number layout (without_outer_blanks front)
+labelled_by number layout front None e = refl
+labelled_by number layout front (Some rest) e = absurd cc
 
 -- a line without a label is its statement
-line_is : (number : ℕ) (laid : LayoutSoFar) (line : List ℕ) → list_all is_plain (before_comment line) ≡ true → label_of line ≡ None
-    → (list_any is_colon (statement_text line) ≡ false) × (line_laid number laid line ≡ statement number laid (statement_text line))
-unfolding line_laid
-line_is number laid line plain none =
+line_is : (number : ℕ) (layout : LayoutSoFar) (line : List ℕ) → list_all is_plain (before_comment line) ≡ true → label_of line ≡ None
+    → (list_any is_colon (statement_text line) ≡ false) × (layout_with_line number layout line ≡ layout_with_statement_text number layout (statement_text line))
+unfolding layout_with_line
+line_is number layout line plain none =
     let code = before_comment line in
     let u = unlabelled line none in
     let same : statement_text line ≡ without_outer_blanks (cut_parts is_colon code).0 = behind_by (cut_parts is_colon code).0 (cut_parts is_colon code).1 u.none in
-    (ap (list_any is_colon) same ∙ u.no_colon, rw plain (labelled_by number laid (cut_parts is_colon code).0 (cut_parts is_colon code).1 u.none ∙ ap (statement number laid) (sym same)))
+    (ap (list_any is_colon) same ∙ u.no_colon, rw plain (labelled_by number layout (cut_parts is_colon code).0 (cut_parts is_colon code).1 u.none ∙ ap (layout_with_statement_text number layout) (sym same)))
 
 no_equ : (word : List ℕ) (mnemonic : Mnemonic) (same : Bool) → bytes_eq word (codes ".equ") ≡ same → mnemonic_of word ≡ Some mnemonic → same ≡ false
 unfolding mnemonic_of mnemonic_table
@@ -271,41 +271,41 @@ no_equ word mnemonic true e h =
 no_equ word mnemonic false e h = refl
 
 -- what a statement with a known mnemonic lays
-statement_by : (number : ℕ) (laid : LayoutSoFar) (bytes : List ℕ) (mnemonic : Mnemonic) (these : List Statement) → list_any is_colon bytes ≡ false → mnemonic_of (word_in bytes) ≡ Some mnemonic
-    → statements_of mnemonic laid.names (operands_in bytes) ≡ Ok these → statement number laid bytes ≡ layout_with_all number laid these
-unfolding statement layout_with_statements mnemonic_of mnemonic_table cut_parts
-statement_by number laid [] mnemonic these colon known e = absurd cc
-statement_by number laid (byte ∷ bytes) mnemonic these colon known e =
-    let other : bytes_eq (word_in (byte ∷ bytes)) (codes ".equ") ≡ false = no_equ (word_in (byte ∷ bytes)) mnemonic _ refl known in
+statement_by : (number : ℕ) (layout : LayoutSoFar) (bytes : List ℕ) (mnemonic : Mnemonic) (these : List Statement) → list_any is_colon bytes ≡ false → mnemonic_of (statement_word bytes) ≡ Some mnemonic
+    → statements_of mnemonic layout.names (statement_operands bytes) ≡ Ok these → layout_with_statement_text number layout bytes ≡ layout_with_all number layout these
+unfolding layout_with_statement_text layout_with_statements mnemonic_of mnemonic_table cut_parts
+statement_by number layout [] mnemonic these colon known e = absurd cc
+statement_by number layout (byte ∷ bytes) mnemonic these colon known e =
+    let other : bytes_eq (statement_word (byte ∷ bytes)) (codes ".equ") ≡ false = no_equ (statement_word (byte ∷ bytes)) mnemonic _ refl known in
     rw (colon, other, known, e) refl
 
 -- ---- a listing
 
 -- one more instruction
 with_instruction : ℕ → LayoutSoFar → Inst → LayoutSoFar
-with_instruction number laid inst = layout_of laid.names (laid.statements ++ record { line = number; statement = statements.Inst inst } ∷ []) (laid.size + 4)
+with_instruction number layout inst = layout_of layout.names (layout.statements ++ record { line = number; statement = statements.Inst inst } ∷ []) (layout.size + 4)
 
 -- there is room for so many words
-record HasRoom (laid : LayoutSoFar) (count : ℕ) : Type 0 where
-  aligned : laid.size % 4 ≡ 0
-  fits : laid.size + 4 * count ≤ IMAGE_ROOM
+record HasRoom (layout : LayoutSoFar) (count : ℕ) : Type 0 where
+  aligned : layout.size % 4 ≡ 0
+  fits : layout.size + 4 * count ≤ IMAGE_ROOM
 
-placed_so : (number : ℕ) (laid : LayoutSoFar) (inst : Inst) (count : ℕ) → HasRoom laid (suc count) → layout_with_all number laid (statements.Inst inst ∷ []) ≡ Ok (with_instruction number laid inst)
+placed_so : (number : ℕ) (layout : LayoutSoFar) (inst : Inst) (count : ℕ) → HasRoom layout (suc count) → layout_with_all number layout (statements.Inst inst ∷ []) ≡ Ok (with_instruction number layout inst)
 unfolding layout_with_all layout_with_statement with_instruction
-placed_so number laid inst count room =
-    let fits : nat_lt IMAGE_ROOM (laid.size + 4) ≡ false = le-ltb _ _ (omega (arith, room.fits)) in
+placed_so number layout inst count room =
+    let fits : nat_lt IMAGE_ROOM (layout.size + 4) ≡ false = le-ltb _ _ (omega (arith, room.fits)) in
     rw (room.aligned, fits) refl
 
-line_written : (number : ℕ) (laid : LayoutSoFar) (line : List ℕ) (inst : Inst) (count : ℕ) → HasRoom laid (suc count) → IsWrittenAs inst line → line_laid number laid line ≡ Ok (with_instruction number laid inst)
-line_written number laid line inst count room w =
-    let is = line_is number laid line w.plain w.unlabelled in
+line_written : (number : ℕ) (layout : LayoutSoFar) (line : List ℕ) (inst : Inst) (count : ℕ) → HasRoom layout (suc count) → IsWrittenAs inst line → layout_with_line number layout line ≡ Ok (with_instruction number layout inst)
+line_written number layout line inst count room w =
+    let is = line_is number layout line w.plain w.unlabelled in
     is.1
-    ∙ statement_by number laid (statement_text line) (mnemonic_for inst) (statements.Inst inst ∷ []) is.0 w.mnemonic (reads laid.names (operands_in (statement_text line)) inst w.valid w.operands)
-    ∙ placed_so number laid inst count room
+    ∙ statement_by number layout (statement_text line) (instruction_mnemonic inst) (statements.Inst inst ∷ []) is.0 w.mnemonic (reads layout.names (statement_operands (statement_text line)) inst w.valid w.operands)
+    ∙ placed_so number layout inst count room
 
-line_empty : (number : ℕ) (laid : LayoutSoFar) (line : List ℕ) → IsEmptyLine line → line_laid number laid line ≡ Ok laid
-unfolding statement
-line_empty number laid line w = (line_is number laid line w.plain w.unlabelled).1 ∙ ap (statement number laid) w.nothing
+line_empty : (number : ℕ) (layout : LayoutSoFar) (line : List ℕ) → IsEmptyLine line → layout_with_line number layout line ≡ Ok layout
+unfolding layout_with_statement_text
+line_empty number layout line w = (line_is number layout line w.plain w.unlabelled).1 ∙ ap (layout_with_statement_text number layout) w.nothing
 
 -- placed statements that are these instructions
 ArePlaced : List PlacedStatement → List Inst → Type 0
@@ -314,55 +314,55 @@ ArePlaced [] (inst ∷ insts) = ⊥
 ArePlaced (it ∷ placed) [] = ⊥
 ArePlaced (it ∷ placed) (inst ∷ insts) = (it.statement ≡ statements.Inst inst) × ArePlaced placed insts
 
-record AreWritten (before : ℕ) (laid : LayoutSoFar) (these : List (List ℕ)) (insts : List Inst) : Type 0 where
+record AreWritten (before : ℕ) (layout : LayoutSoFar) (these : List (List ℕ)) (insts : List Inst) : Type 0 where
   placed : List PlacedStatement
-  laid_are : lines_laid before laid these ≡ Ok (layout_of laid.names (laid.statements ++ placed) (laid.size + 4 * length insts))
+  laid_are : layout_with_lines before layout these ≡ Ok (layout_of layout.names (layout.statements ++ placed) (layout.size + 4 * length insts))
   are : ArePlaced placed insts
 
-are_none : (before : ℕ) (laid : LayoutSoFar) → AreWritten before laid [] []
-unfolding lines_laid ArePlaced
-are_none before laid = record {
+are_none : (before : ℕ) (layout : LayoutSoFar) → AreWritten before layout [] []
+unfolding layout_with_lines ArePlaced
+are_none before layout = record {
   placed = [];
-  laid_are = ap (λ (placed : List PlacedStatement). Ok (layout_of laid.names placed laid.size)) (sym (append-nil laid.statements)) ∙ ap (λ (n : ℕ). Ok (layout_of laid.names (laid.statements ++ []) n)) (omega arith);
+  laid_are = ap (λ (placed : List PlacedStatement). Ok (layout_of layout.names placed layout.size)) (sym (append-nil layout.statements)) ∙ ap (λ (n : ℕ). Ok (layout_of layout.names (layout.statements ++ []) n)) (omega arith);
   are = tt;
 }
 
-are_behind_empty : (before : ℕ) (laid : LayoutSoFar) (line : List ℕ) (these : List (List ℕ)) (insts : List Inst) → IsEmptyLine line → AreWritten (before + 1) laid these insts → AreWritten before laid (line ∷ these) insts
-unfolding lines_laid
-are_behind_empty before laid line these insts w rest = record {
+are_behind_empty : (before : ℕ) (layout : LayoutSoFar) (line : List ℕ) (these : List (List ℕ)) (insts : List Inst) → IsEmptyLine line → AreWritten (before + 1) layout these insts → AreWritten before layout (line ∷ these) insts
+unfolding layout_with_lines
+are_behind_empty before layout line these insts w rest = record {
   placed = rest.placed;
-  laid_are = ap (λ (r : Result LayoutSoFar AsmKind). judgment_at_line (before + 1) r >>= λ one. lines_laid (before + 1) one these) (line_empty (before + 1) laid line w) ∙ rest.laid_are;
+  laid_are = ap (λ (r : Result LayoutSoFar AsmKind). judgment_at_line (before + 1) r >>= λ one. layout_with_lines (before + 1) one these) (line_empty (before + 1) layout line w) ∙ rest.laid_are;
   are = rest.are;
 }
 
-are_behind : (before : ℕ) (laid : LayoutSoFar) (line : List ℕ) (these : List (List ℕ)) (inst : Inst) (insts : List Inst) → HasRoom laid (suc (length insts)) → IsWrittenAs inst line
-    → AreWritten (before + 1) (with_instruction (before + 1) laid inst) these insts → AreWritten before laid (line ∷ these) (inst ∷ insts)
-unfolding lines_laid with_instruction ArePlaced
-are_behind before laid line these inst insts room w rest =
+are_behind : (before : ℕ) (layout : LayoutSoFar) (line : List ℕ) (these : List (List ℕ)) (inst : Inst) (insts : List Inst) → HasRoom layout (suc (length insts)) → IsWrittenAs inst line
+    → AreWritten (before + 1) (with_instruction (before + 1) layout inst) these insts → AreWritten before layout (line ∷ these) (inst ∷ insts)
+unfolding layout_with_lines with_instruction ArePlaced
+are_behind before layout line these inst insts room w rest =
     let one : PlacedStatement = record { line = before + 1; statement = statements.Inst inst } in
     record {
       placed = one ∷ rest.placed;
       laid_are =
-          ap (λ (r : Result LayoutSoFar AsmKind). judgment_at_line (before + 1) r >>= λ next. lines_laid (before + 1) next these) (line_written (before + 1) laid line inst (length insts) room w)
+          ap (λ (r : Result LayoutSoFar AsmKind). judgment_at_line (before + 1) r >>= λ next. layout_with_lines (before + 1) next these) (line_written (before + 1) layout line inst (length insts) room w)
           ∙ rest.laid_are
-          ∙ ap (λ (placed : List PlacedStatement). Ok (layout_of laid.names placed (laid.size + 4 + 4 * length insts))) (append_assoc laid.statements (one ∷ []) rest.placed)
-          ∙ ap (λ (n : ℕ). Ok (layout_of laid.names (laid.statements ++ one ∷ rest.placed) n)) (omega arith);
+          ∙ ap (λ (placed : List PlacedStatement). Ok (layout_of layout.names placed (layout.size + 4 + 4 * length insts))) (append_assoc layout.statements (one ∷ []) rest.placed)
+          ∙ ap (λ (n : ℕ). Ok (layout_of layout.names (layout.statements ++ one ∷ rest.placed) n)) (omega arith);
       are = (refl, rest.are);
     }
 
-room_behind : (number : ℕ) (laid : LayoutSoFar) (inst : Inst) (count : ℕ) → HasRoom laid (suc count) → HasRoom (with_instruction number laid inst) count
+room_behind : (number : ℕ) (layout : LayoutSoFar) (inst : Inst) (count : ℕ) → HasRoom layout (suc count) → HasRoom (with_instruction number layout inst) count
 unfolding with_instruction
-room_behind number laid inst count room = record { aligned = omega (arith, room.aligned); fits = omega (arith, room.fits) }
+room_behind number layout inst count room = record { aligned = omega (arith, room.aligned); fits = omega (arith, room.fits) }
 
-are_written : (before : ℕ) (laid : LayoutSoFar) (these : List (List ℕ)) (insts : List Inst) → HasRoom laid (length insts) → IsListing these insts → AreWritten before laid these insts
-are_written before laid [] [] room h = are_none before laid
-are_written before laid [] (inst ∷ insts) room h = absurd h
-are_written before laid (line ∷ these) [] room h = are_behind_empty before laid line these [] h.0 (are_written (before + 1) laid these [] room h.1)
-are_written before laid (line ∷ these) (inst ∷ insts) room (inl h) =
-    are_behind before laid line these inst insts room h.0
-    (are_written (before + 1) (with_instruction (before + 1) laid inst) these insts (room_behind (before + 1) laid inst (length insts) room) h.1)
-are_written before laid (line ∷ these) (inst ∷ insts) room (inr h) =
-    are_behind_empty before laid line these (inst ∷ insts) h.0 (are_written (before + 1) laid these (inst ∷ insts) room h.1)
+are_written : (before : ℕ) (layout : LayoutSoFar) (these : List (List ℕ)) (insts : List Inst) → HasRoom layout (length insts) → IsListing these insts → AreWritten before layout these insts
+are_written before layout [] [] room h = are_none before layout
+are_written before layout [] (inst ∷ insts) room h = absurd h
+are_written before layout (line ∷ these) [] room h = are_behind_empty before layout line these [] h.0 (are_written (before + 1) layout these [] room h.1)
+are_written before layout (line ∷ these) (inst ∷ insts) room (inl h) =
+    are_behind before layout line these inst insts room h.0
+    (are_written (before + 1) (with_instruction (before + 1) layout inst) these insts (room_behind (before + 1) layout inst (length insts) room) h.1)
+are_written before layout (line ∷ these) (inst ∷ insts) room (inr h) =
+    are_behind_empty before layout line these (inst ∷ insts) h.0 (are_written (before + 1) layout these (inst ∷ insts) room h.1)
 
 parts_so : (names : Names) (address : ℕ) (placed : List PlacedStatement) (insts : List Inst) → ArePlaced placed insts → second_pass names address placed ≡ Ok (map Instruction insts)
 unfolding second_pass ArePlaced parts_of
@@ -377,7 +377,7 @@ pub listing_assembles : (text : List ℕ) (insts : List Inst) → IsListing (lin
     → assembly_of text ≡ Ok (record { entry = PRIVATE_START; parts = map Instruction insts })
 unfolding first_pass
 listing_assembles text insts h some fits =
-    let all = are_written 0 nothing_laid (line_texts text) insts (record { aligned = refl; fits = omega (arith, fits) }) h in
-    let laid = layout_of no_names all.placed (0 + 4 * length insts) in
+    let all = are_written 0 empty_layout (line_texts text) insts (record { aligned = refl; fits = omega (arith, fits) }) h in
+    let layout = layout_of no_names all.placed (0 + 4 * length insts) in
     let begins : is_entry PRIVATE_START (0 + 4 * length insts) ≡ true = le-leb _ _ (omega (arith, some)) in
-    described text laid (map Instruction insts) all.laid_are (parts_so no_names PRIVATE_START all.placed insts all.are) begins
+    described text layout (map Instruction insts) all.laid_are (parts_so no_names PRIVATE_START all.placed insts all.are) begins

@@ -1,6 +1,6 @@
 -- The faults of operands, as the tests tell them.
 use Rattle.std.proofs.Common.{◌≡◌, ℕ, ◌<◌, Bool, true, false, cond, not, eqb, List, [], ◌∷◌, length, map, replicate, Option, Some, None, Result, Ok, Err, refl, sym, ap, ◌∙◌, arith}
-use Rattle.std.specs.Prelude.{◌||◌, ◌&&◌, is_none, max, fold, ℤ, pos, int_le}
+use Rattle.std.specs.Prelude.{◌||◌, ◌&&◌, is_none, max, fold, ℤ, pos, int_le, ok_or}
 use Rattle.std.specs.Result.{result_err}
 use Rattle.std.specs.List.{slice_split}
 use Rattle.std.proofs.lemmas.Bool.{ne_eqb, eq-eqb}
@@ -23,11 +23,11 @@ use Rattle.rv_asm.specs.Name.{is_name}
 use Rattle.rv_asm.specs.Register.{named_register}
 use Rattle.rv_asm.specs.Literal.{literal_of}
 use Rattle.rv_asm.specs.Names.{Names}
-use Rattle.rv_asm.specs.Faults.{◌>>=◌, refusal, or_fault, pair_judgment, with_judged, judgment_of_list}
-use Rattle.rv_asm.specs.Operand.{one_of, two_of, three_of, one_piece, two_pieces, three_pieces, no_piece, register, number, number_named, number_in_range, name_piece, twelve_bits, is_closed, bracket_operand, memory, least_immediate, greatest_immediate}
-use Rattle.rv_asm.specs.Statements.{register_upper, register_memory, immediate, registers_immediate, three_registers, two_registers, register_word, register_label, registers_label, one_label, value_named, word_value, byte_value, zero_count, statements_of}
-use Rattle.rv_asm_laws.specs.Forms.{Form, a_register, any_number, a_number, a_memory, a_name, a_value, number_meant, number_given, is_no_number, is_unknown, is_outside, is_bracketed, base_behind, is_malformed, lacks_register, lacks_number, lacks_name, first_kind, has_operand, operands_fault, operand_texts, statement_fault}
-use Rattle.rv_asm_laws.proofs.FirstKinds.{earliest, first_kind-joined, or_assoc, or_false}
+use Rattle.rv_asm.specs.Faults.{◌>>=◌, refusal, pair_judgment, with_judgment, judgment_of_list}
+use Rattle.rv_asm.specs.Operand.{single_text, text_pair, text_triple, one_piece, two_pieces, three_pieces, no_piece, register, number, number_judgment, number_in_range, name_piece, twelve_bits, is_closed, bracket_operand, memory, least_immediate, greatest_immediate}
+use Rattle.rv_asm.specs.Statements.{register_upper, register_memory, immediate, registers_immediate, three_registers, two_registers, register_word, register_label, registers_label, one_label, word_statement, word_value, byte_value, zero_count, statements_of}
+use Rattle.rv_asm_laws.specs.Forms.{Form, a_register, any_number, a_number, a_memory, a_name, a_value, symbol_number, token_number, is_no_number, is_unknown, is_outside, is_bracketed, base_part, is_malformed, lacks_register, lacks_number, lacks_name, first_kind, has_operand, operands_fault, operand_texts, statement_fault}
+use Rattle.rv_asm_laws.proofs.FirstKinds.{earliest_kind, first_kind-joined, or_assoc, or_false}
 
 -- ---- one operand
 
@@ -35,7 +35,7 @@ use Rattle.rv_asm_laws.proofs.FirstKinds.{earliest, first_kind-joined, or_assoc,
 unfoldable pub operand_fault : Names → Form → List ℕ → Option AsmKind
 operand_fault names form text = first_kind (is_malformed form text) (lacks_register form text) (lacks_number names form text) (lacks_name names form text)
 
-register_by : (whole : Bool) (found : Option ℕ) → result_err (refusal (not whole) Operands >>= λ it. or_fault found BadRegister) ≡ first_kind (not whole) (is_none found) false false
+register_by : (whole : Bool) (found : Option ℕ) → result_err (refusal (not whole) Operands >>= λ it. ok_or found BadRegister) ≡ first_kind (not whole) (is_none found) false false
 register_by true None = refl
 register_by true (Some n) = refl
 register_by false found = refl
@@ -45,8 +45,8 @@ unfolding register operand_fault is_malformed lacks_register lacks_number lacks_
 register_fault names text = register_by (is_token text) (named_register text)
 
 number_by : (whole named : Bool) (meant : Option Symbol) (written : Option ℤ)
-    → result_err (refusal (not whole) Operands >>= λ it. cond named (number_named meant) (or_fault written BadNumber))
-    ≡ first_kind (not whole) false (not named && is_none written) (named && is_none (number_meant meant))
+    → result_err (refusal (not whole) Operands >>= λ it. cond named (number_judgment meant) (ok_or written BadNumber))
+    ≡ first_kind (not whole) false (not named && is_none written) (named && is_none (symbol_number meant))
 number_by false named meant written = refl
 number_by true true None written = refl
 number_by true true (Some (Number n)) written = refl
@@ -63,8 +63,8 @@ inside_by true n = refl
 inside_by false n = refl
 
 ranged_by : (least greatest : ℤ) (whole named : Bool) (meant : Option Symbol) (written : Option ℤ)
-    → result_err ((refusal (not whole) Operands >>= λ it. cond named (number_named meant) (or_fault written BadNumber)) >>= λ n. cond (int_le least n && int_le n greatest) (Ok n) (Err BadNumber))
-    ≡ first_kind (not whole) false ((not named && is_none written) || is_outside least greatest (cond named (number_meant meant) written)) (named && is_none (number_meant meant))
+    → result_err ((refusal (not whole) Operands >>= λ it. cond named (number_judgment meant) (ok_or written BadNumber)) >>= λ n. cond (int_le least n && int_le n greatest) (Ok n) (Err BadNumber))
+    ≡ first_kind (not whole) false ((not named && is_none written) || is_outside least greatest (cond named (symbol_number meant) written)) (named && is_none (symbol_number meant))
 ranged_by least greatest false named meant written = refl
 ranged_by least greatest true true None written = refl
 ranged_by least greatest true true (Some (Number n)) written = inside_by (int_le least n && int_le n greatest) n
@@ -74,7 +74,7 @@ ranged_by least greatest true false meant (Some n) = inside_by (int_le least n &
 
 -- a number in a range
 in_range : (names : Names) (least greatest : ℤ) (text : List ℕ) → result_err (number_in_range least greatest (number names text))
-    ≡ first_kind (not (is_token text)) false (is_no_number text || is_outside least greatest (number_given names text)) (is_unknown names text)
+    ≡ first_kind (not (is_token text)) false (is_no_number text || is_outside least greatest (token_number names text)) (is_unknown names text)
 unfolding number_in_range number
 in_range names least greatest text = ranged_by least greatest (is_token text) (is_name text) (names text) (literal_of text)
 
@@ -91,7 +91,7 @@ unfolding name_piece operand_fault is_malformed lacks_register lacks_number lack
 name_fault names text = name_by (is_name text)
 
 value_by : (whole named : Bool) (text : List ℕ) (meant : Option Symbol) (written : Option ℤ) (make : ℤ → Statement)
-    → result_err (refusal (not whole) Operands >>= λ it. cond named (Ok (value_named text meant)) (or_fault written BadNumber >>= λ n. Ok (make n)))
+    → result_err (refusal (not whole) Operands >>= λ it. cond named (Ok (word_statement text meant)) (ok_or written BadNumber >>= λ n. Ok (make n)))
     ≡ first_kind (not whole) false (not named && is_none written) false
 value_by false named text meant written make = refl
 value_by true true text meant written make = refl
@@ -109,7 +109,7 @@ err_ok : {A B : Type 0} (r : Result A AsmKind) (make : A → B) → result_err (
 err_ok (Ok x) make = refl
 err_ok (Err kind) make = refl
 
-pub err_both : {A B : Type 0} (first : Result A AsmKind) (second : Result B AsmKind) → result_err (pair_judgment first second) ≡ earliest (result_err first) (result_err second)
+pub err_both : {A B : Type 0} (first : Result A AsmKind) (second : Result B AsmKind) → result_err (pair_judgment first second) ≡ earliest_kind (result_err first) (result_err second)
 unfolding pair_judgment
 err_both (Ok first) (Ok second) = refl
 err_both (Ok first) (Err kind) = refl
@@ -126,24 +126,24 @@ not_both : (offset base : Bool) → not offset || not base ≡ not (true && offs
 not_both true base = refl
 not_both false base = refl
 
-bools : (offset base none number name : Bool) → earliest (first_kind (not offset) false number name) (first_kind (not base) none false false)
+bools : (offset base none number name : Bool) → earliest_kind (first_kind (not offset) false number name) (first_kind (not base) none false false)
     ≡ first_kind (not (true && offset && base)) none number name
 bools offset base none number name =
     first_kind-joined (not offset) false number name (not base) none false false ∙ rw (not_both offset base, or_false number, or_false name) refl
 
 brackets_by : (closes : Bool) (names : Names) (offset base : List ℕ)
     → result_err (refusal (not closes) Operands >>= λ it. pair_judgment (twelve_bits names offset) (register base))
-    ≡ first_kind (not (closes && is_token offset && is_token base)) (is_none (named_register base)) (is_no_number offset || is_outside LEAST_IMMEDIATE GREATEST_IMMEDIATE (number_given names offset)) (is_unknown names offset)
+    ≡ first_kind (not (closes && is_token offset && is_token base)) (is_none (named_register base)) (is_no_number offset || is_outside LEAST_IMMEDIATE GREATEST_IMMEDIATE (token_number names offset)) (is_unknown names offset)
 unfolding twelve_bits register
 brackets_by false names offset base = refl
 brackets_by true names offset base =
-    err_both (number_in_range LEAST_IMMEDIATE GREATEST_IMMEDIATE (number names offset)) (refusal (not (is_token base)) Operands >>= λ it. or_fault (named_register base) BadRegister)
+    err_both (number_in_range LEAST_IMMEDIATE GREATEST_IMMEDIATE (number names offset)) (refusal (not (is_token base)) Operands >>= λ it. ok_or (named_register base) BadRegister)
     ∙ rw (in_range names LEAST_IMMEDIATE GREATEST_IMMEDIATE offset, register_by (is_token base) (named_register base))
-    (bools (is_token offset) (is_token base) (is_none (named_register base)) (is_no_number offset || is_outside LEAST_IMMEDIATE GREATEST_IMMEDIATE (number_given names offset)) (is_unknown names offset))
+    (bools (is_token offset) (is_token base) (is_none (named_register base)) (is_no_number offset || is_outside LEAST_IMMEDIATE GREATEST_IMMEDIATE (token_number names offset)) (is_unknown names offset))
 
 memory_by : (names : Names) (front : List ℕ) (rest : Option (List ℕ)) → result_err (bracket_operand names front rest)
-    ≡ first_kind (not (is_bracketed rest && is_token (without_outer_blanks front) && is_token (base_behind rest))) (is_none (named_register (base_behind rest)))
-    (is_no_number (without_outer_blanks front) || is_outside LEAST_IMMEDIATE GREATEST_IMMEDIATE (number_given names (without_outer_blanks front))) (is_unknown names (without_outer_blanks front))
+    ≡ first_kind (not (is_bracketed rest && is_token (without_outer_blanks front) && is_token (base_part rest))) (is_none (named_register (base_part rest)))
+    (is_no_number (without_outer_blanks front) || is_outside LEAST_IMMEDIATE GREATEST_IMMEDIATE (token_number names (without_outer_blanks front))) (is_unknown names (without_outer_blanks front))
 memory_by names front None = refl
 memory_by names front (Some behind) = brackets_by (is_closed (cut_parts is_closing behind).1) names (without_outer_blanks front) (without_outer_blanks (cut_parts is_closing behind).0)
 
@@ -162,16 +162,16 @@ unfolding operand_fault operands_fault
 joined_one names form text =
     sym (rw (or_false (is_malformed form text), or_false (lacks_register form text), or_false (lacks_number names form text), or_false (lacks_name names form text)) refl)
 
-pub joined_two : (names : Names) (f g : Form) (t u : List ℕ) → earliest (operand_fault names f t) (operand_fault names g u) ≡ operands_fault names (f ∷ g ∷ []) (t ∷ u ∷ [])
+pub joined_two : (names : Names) (f g : Form) (t u : List ℕ) → earliest_kind (operand_fault names f t) (operand_fault names g u) ≡ operands_fault names (f ∷ g ∷ []) (t ∷ u ∷ [])
 unfolding operand_fault operands_fault
 joined_two names f g t u =
     first_kind-joined (is_malformed f t) (lacks_register f t) (lacks_number names f t) (lacks_name names f t) (is_malformed g u) (lacks_register g u) (lacks_number names g u) (lacks_name names g u)
     ∙ sym (rw (or_false (is_malformed g u), or_false (lacks_register g u), or_false (lacks_number names g u), or_false (lacks_name names g u)) refl)
 
-joined_three : (names : Names) (f g k : Form) (t u v : List ℕ) → earliest (earliest (operand_fault names f t) (operand_fault names g u)) (operand_fault names k v) ≡ operands_fault names (f ∷ g ∷ k ∷ []) (t ∷ u ∷ v ∷ [])
+joined_three : (names : Names) (f g k : Form) (t u v : List ℕ) → earliest_kind (earliest_kind (operand_fault names f t) (operand_fault names g u)) (operand_fault names k v) ≡ operands_fault names (f ∷ g ∷ k ∷ []) (t ∷ u ∷ v ∷ [])
 unfolding operand_fault operands_fault
 joined_three names f g k t u v =
-    ap (λ (first : Option AsmKind). earliest first (first_kind (is_malformed k v) (lacks_register k v) (lacks_number names k v) (lacks_name names k v)))
+    ap (λ (first : Option AsmKind). earliest_kind first (first_kind (is_malformed k v) (lacks_register k v) (lacks_number names k v) (lacks_name names k v)))
     (first_kind-joined (is_malformed f t) (lacks_register f t) (lacks_number names f t) (lacks_name names f t) (is_malformed g u) (lacks_register g u) (lacks_number names g u) (lacks_name names g u))
     ∙ first_kind-joined (is_malformed f t || is_malformed g u) (lacks_register f t || lacks_register g u) (lacks_number names f t || lacks_number names g u) (lacks_name names f t || lacks_name names g u)
     (is_malformed k v) (lacks_register k v) (lacks_number names k v) (lacks_name names k v)
@@ -188,20 +188,20 @@ joined_three names f g k t u v =
 
 module _ (names : Names) where
   one_fault : {A C : Type 0} (f : Form) (judge : List ℕ → Result A AsmKind) (make : List ℕ → A → C) → ((t : List ℕ) → result_err (judge t) ≡ operand_fault names f t) → (texts : List (List ℕ))
-      → result_err (one_of texts >>= λ text. judge text >>= λ value. Ok (make text value)) ≡ operands_fault names (f ∷ []) texts
+      → result_err (single_text texts >>= λ text. judge text >>= λ value. Ok (make text value)) ≡ operands_fault names (f ∷ []) texts
   one_fault f judge make h [] = wrong names (f ∷ []) [] refl
   one_fault f judge make h (t ∷ []) = err_ok (judge t) (make t) ∙ h t ∙ joined_one names f t
   one_fault f judge make h (t ∷ u ∷ texts) = wrong names (f ∷ []) (t ∷ u ∷ texts) (ne_eqb _ _ (λ e. absurd (omega arith)))
 
   two_alone : {A B : Type 0} (f g : Form) (first : List ℕ → Result A AsmKind) (second : List ℕ → Result B AsmKind) → ((t : List ℕ) → result_err (first t) ≡ operand_fault names f t) → ((t : List ℕ) → result_err (second t) ≡ operand_fault names g t)
-      → (texts : List (List ℕ)) → result_err (two_of texts >>= λ parts. pair_judgment (first parts.0) (second parts.1)) ≡ operands_fault names (f ∷ g ∷ []) texts
+      → (texts : List (List ℕ)) → result_err (text_pair texts >>= λ parts. pair_judgment (first parts.0) (second parts.1)) ≡ operands_fault names (f ∷ g ∷ []) texts
   two_alone f g first second h k [] = wrong names (f ∷ g ∷ []) [] refl
   two_alone f g first second h k (t ∷ []) = wrong names (f ∷ g ∷ []) (t ∷ []) refl
   two_alone f g first second h k (t ∷ u ∷ []) = err_both (first t) (second u) ∙ rw (h t, k u) (joined_two names f g t u)
   two_alone f g first second h k (t ∷ u ∷ v ∷ texts) = wrong names (f ∷ g ∷ []) (t ∷ u ∷ v ∷ texts) (ne_eqb _ _ (λ e. absurd (omega arith)))
 
   two_fault : {A B C : Type 0} (f g : Form) (first : List ℕ → Result A AsmKind) (second : List ℕ → Result B AsmKind) (make : List ℕ × List ℕ → A × B → C) → ((t : List ℕ) → result_err (first t) ≡ operand_fault names f t) → ((t : List ℕ) → result_err (second t) ≡ operand_fault names g t)
-      → (texts : List (List ℕ)) → result_err (two_of texts >>= λ parts. pair_judgment (first parts.0) (second parts.1) >>= λ values. Ok (make parts values)) ≡ operands_fault names (f ∷ g ∷ []) texts
+      → (texts : List (List ℕ)) → result_err (text_pair texts >>= λ parts. pair_judgment (first parts.0) (second parts.1) >>= λ values. Ok (make parts values)) ≡ operands_fault names (f ∷ g ∷ []) texts
   two_fault f g first second make h k [] = wrong names (f ∷ g ∷ []) [] refl
   two_fault f g first second make h k (t ∷ []) = wrong names (f ∷ g ∷ []) (t ∷ []) refl
   two_fault f g first second make h k (t ∷ u ∷ []) = err_ok (pair_judgment (first t) (second u)) (make (t, u)) ∙ err_both (first t) (second u) ∙ rw (h t, k u) (joined_two names f g t u)
@@ -209,26 +209,26 @@ module _ (names : Names) where
 
   three_fault : {A B C D : Type 0} (f g k : Form) (first : List ℕ → Result A AsmKind) (second : List ℕ → Result B AsmKind) (third : List ℕ → Result C AsmKind) (make : List ℕ × List ℕ × List ℕ → (A × B) × C → D)
       → ((t : List ℕ) → result_err (first t) ≡ operand_fault names f t) → ((t : List ℕ) → result_err (second t) ≡ operand_fault names g t) → ((t : List ℕ) → result_err (third t) ≡ operand_fault names k t)
-      → (texts : List (List ℕ)) → result_err (three_of texts >>= λ parts. pair_judgment (pair_judgment (first parts.0) (second parts.1)) (third parts.2) >>= λ values. Ok (make parts values)) ≡ operands_fault names (f ∷ g ∷ k ∷ []) texts
+      → (texts : List (List ℕ)) → result_err (text_triple texts >>= λ parts. pair_judgment (pair_judgment (first parts.0) (second parts.1)) (third parts.2) >>= λ values. Ok (make parts values)) ≡ operands_fault names (f ∷ g ∷ k ∷ []) texts
   three_fault f g k first second third make h1 h2 h3 [] = wrong names (f ∷ g ∷ k ∷ []) [] refl
   three_fault f g k first second third make h1 h2 h3 (t ∷ []) = wrong names (f ∷ g ∷ k ∷ []) (t ∷ []) refl
   three_fault f g k first second third make h1 h2 h3 (t ∷ u ∷ []) = wrong names (f ∷ g ∷ k ∷ []) (t ∷ u ∷ []) refl
   three_fault f g k first second third make h1 h2 h3 (t ∷ u ∷ v ∷ []) =
       err_ok (pair_judgment (pair_judgment (first t) (second u)) (third v)) (make (t, u, v)) ∙ err_both (pair_judgment (first t) (second u)) (third v)
-      ∙ ap (λ (it : Option AsmKind). earliest it (result_err (third v))) (err_both (first t) (second u))
+      ∙ ap (λ (it : Option AsmKind). earliest_kind it (result_err (third v))) (err_both (first t) (second u))
       ∙ rw (h1 t, h2 u, h3 v) (joined_three names f g k t u v)
   three_fault f g k first second third make h1 h2 h3 (t ∷ u ∷ v ∷ w ∷ texts) = wrong names (f ∷ g ∷ k ∷ []) (t ∷ u ∷ v ∷ w ∷ texts) (ne_eqb _ _ (λ e. absurd (omega arith)))
 
   -- any number of operands
   all_faults : {A : Type 0} (f : Form) (judge : List ℕ → Result A AsmKind) → ((t : List ℕ) → result_err (judge t) ≡ operand_fault names f t) → (texts : List (List ℕ)) (so_far : Result (List A) AsmKind) (a b c d : Bool)
       → result_err so_far ≡ first_kind a b c d
-      → result_err (fold with_judged so_far (map judge texts))
+      → result_err (fold with_judgment so_far (map judge texts))
       ≡ first_kind (a || has_operand is_malformed (replicate (length texts) f) texts) (b || has_operand lacks_register (replicate (length texts) f) texts) (c || has_operand (lacks_number names) (replicate (length texts) f) texts) (d || has_operand (lacks_name names) (replicate (length texts) f) texts)
-  unfolding with_judged operand_fault
+  unfolding with_judgment operand_fault
   all_faults f judge h [] so_far a b c d e = e ∙ sym (rw (or_false a, or_false b, or_false c, or_false d) refl)
   all_faults f judge h (t ∷ texts) so_far a b c d e =
       let here = err_ok (pair_judgment so_far (judge t)) _ ∙ err_both so_far (judge t) ∙ rw (e, h t) (first_kind-joined a b c d (is_malformed f t) (lacks_register f t) (lacks_number names f t) (lacks_name names f t)) in
-      all_faults f judge h texts (with_judged so_far (judge t)) (a || is_malformed f t) (b || lacks_register f t) (c || lacks_number names f t) (d || lacks_name names f t) here
+      all_faults f judge h texts (with_judgment so_far (judge t)) (a || is_malformed f t) (b || lacks_register f t) (c || lacks_number names f t) (d || lacks_name names f t) here
       ∙ rw (
         or_assoc a (is_malformed f t) (has_operand is_malformed (replicate (length texts) f) texts),
         or_assoc b (lacks_register f t) (has_operand lacks_register (replicate (length texts) f) texts),
@@ -242,7 +242,8 @@ pieces_nil : pieces [] ≡ [] ∷ []
 unfolding pieces without_outer_blanks without_front_blanks without_end_blanks
 pieces_nil = refl
 
--- where nothing is written there is one empty piece and no operand: a statement that takes operands refuses both
+-- where nothing is written there is one empty piece and no operand: a statement that takes operands
+-- refuses both
 written : (names : Names) (forms : List Form) (operands : List ℕ) → operands_fault names forms ([] ∷ []) ≡ Some Operands → operands_fault names forms [] ≡ Some Operands
     → operands_fault names forms (pieces operands) ≡ operands_fault names forms (operand_texts operands)
 written names forms [] h k = ap (operands_fault names forms) pieces_nil ∙ h ∙ sym k

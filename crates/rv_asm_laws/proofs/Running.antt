@@ -12,7 +12,7 @@ use Rattle.rv_model.specs.declared.inst.ImmOp.TheVariants.{Addi}
 use Rattle.rv_model.specs.declared.inst.BranchOp.{BranchOp}
 use Rattle.rv_model.specs.Word.{wrapping_sum}
 use Rattle.rv_model.specs.Words.{dec}
-use Rattle.rv_model.specs.Exec.{Access, Outcome, next_state, exec, effect_of, reg, with_reg, next_pc, offset_by, jump_outcome, is_taken}
+use Rattle.rv_model.specs.Exec.{Access, Outcome, next_state, exec, effect_of, register_value, with_register, next_pc, offset_by, jump_outcome, is_taken}
 use Rattle.rv_inst.specs.Valid.{IsRegister}
 use Rattle.rv_asm.specs.declared.fault.AsmKind.{AsmKind}
 use Rattle.rv_asm.specs.declared.symbols.Symbol.TheVariants.{Label}
@@ -21,8 +21,8 @@ use Rattle.rv_asm.specs.declared.fault.AsmKind.TheVariants.{TooFar}
 use Rattle.rv_asm.specs.Faults.{◌>>=◌, refusal}
 use Rattle.rv_asm.specs.Names.{Names}
 use Rattle.rv_asm.specs.Statements.{low_part, high_part, is_short, two_instructions, load_word}
-use Rattle.rv_asm.specs.SecondPass.{Part, Instruction, parts_of, address_meant, address_of, offset_to, is_reached}
-use Rattle.rv_asm_laws.specs.Effects.{HasInstructions, HasParts, steps, then_steps, pc_behind}
+use Rattle.rv_asm.specs.SecondPass.{Part, Instruction, parts_of, address_judgment, address_of, offset_to, is_reached}
+use Rattle.rv_asm_laws.specs.Effects.{HasInstructions, HasParts, steps, outcome_after_step, pc_behind}
 
 -- ---- arithmetic
 
@@ -81,36 +81,36 @@ step_is A x m pc word inst f d = rw (f, d) refl
 
 -- a register that is written twice
 written_by : (x : List ℕ) (rd first second word : ℕ) (none : Bool) → (rd == 0) ≡ none → rd < length x → wrapping_sum first second ≡ word
-    → with_reg (with_reg x rd first) rd (wrapping_sum (reg (with_reg x rd first) rd) second) ≡ with_reg x rd word
+    → with_register (with_register x rd first) rd (wrapping_sum (register_value (with_register x rd first) rd) second) ≡ with_register x rd word
 written_by x rd first second word true e lt sum = rw e refl
 written_by x rd first second word false e lt sum =
     rw e (set-set x rd first (wrapping_sum (get_or (set x rd first) rd 0) second) ∙ ap (set x rd) (ap (λ n. wrapping_sum n second) (get_or-set_same x rd first 0 lt) ∙ sum))
 
 two_load : (A : Access (List ℕ)) (x m : List ℕ) (pc rd word : ℕ) → length x ≡ 32 → IsRegister rd → word < 2 ^ 32 → HasInstructions A m pc (two_instructions rd word)
-    → steps 2 A x pc m ≡ next_state (with_reg x rd word) (pc_behind 2 pc) m
+    → steps 2 A x pc m ≡ next_state (with_register x rd word) (pc_behind 2 pc) m
 unfolding effect_of
 two_load A x m pc rd word len register fits h =
-    let x1 = with_reg x rd (high_part word) in
-    ap (then_steps (steps 1 A)) (step_is A x m pc h.0 _ h.1 h.2)
-    ∙ ap (then_steps (steps 0 A)) (step_is A x1 m (next_pc pc) h.3.0 _ h.3.1 h.3.2)
+    let x1 = with_register x rd (high_part word) in
+    ap (outcome_after_step (steps 1 A)) (step_is A x m pc h.0 _ h.1 h.2)
+    ∙ ap (outcome_after_step (steps 0 A)) (step_is A x1 m (next_pc pc) h.3.0 _ h.3.1 h.3.2)
     ∙ ap (λ (y : List ℕ). next_state y (pc_behind 2 pc) m) (written_by x rd (high_part word) (cast_unsigned w32 (low_part word)) word (rd == 0) refl (omega (arith, len, register)) (sum_of_parts word fits))
 
 one_load : (A : Access (List ℕ)) (x m : List ℕ) (pc rd word : ℕ) → is_short word ≡ true → word < 2 ^ 32 → HasInstructions A m pc (OpImm Addi rd 0 (low_part word) ∷ [])
-    → steps 1 A x pc m ≡ next_state (with_reg x rd word) (pc_behind 1 pc) m
+    → steps 1 A x pc m ≡ next_state (with_register x rd word) (pc_behind 1 pc) m
 unfolding effect_of
 one_load A x m pc rd word short fits h =
-    ap (then_steps (steps 0 A)) (step_is A x m pc h.0 _ h.1 h.2)
-    ∙ ap (λ (n : ℕ). next_state (with_reg x rd n) (pc_behind 1 pc) m) (short_sum word (nat_lt word 2048) refl short fits)
+    ap (outcome_after_step (steps 0 A)) (step_is A x m pc h.0 _ h.1 h.2)
+    ∙ ap (λ (n : ℕ). next_state (with_register x rd n) (pc_behind 1 pc) m) (short_sum word (nat_lt word 2048) refl short fits)
 
 li_by : (A : Access (List ℕ)) (x m : List ℕ) (pc rd word : ℕ) (short : Bool) → is_short word ≡ short → length x ≡ 32 → IsRegister rd → word < 2 ^ 32
     → HasInstructions A m pc (cond short (OpImm Addi rd 0 (low_part word) ∷ []) (two_instructions rd word))
     → steps (length (cond short (OpImm Addi rd 0 (low_part word) ∷ []) (two_instructions rd word))) A x pc m
-    ≡ next_state (with_reg x rd word) (pc_behind (length (cond short (OpImm Addi rd 0 (low_part word) ∷ []) (two_instructions rd word))) pc) m
+    ≡ next_state (with_register x rd word) (pc_behind (length (cond short (OpImm Addi rd 0 (low_part word) ∷ []) (two_instructions rd word))) pc) m
 li_by A x m pc rd word true e len register fits h = one_load A x m pc rd word e fits h
 li_by A x m pc rd word false e len register fits h = two_load A x m pc rd word len register fits h
 
 pub li_loads : (A : Access (List ℕ)) (x m : List ℕ) (pc rd word : ℕ) → length x ≡ 32 → IsRegister rd → word < 2 ^ 32 → HasInstructions A m pc (load_word rd word)
-    → steps (length (load_word rd word)) A x pc m ≡ next_state (with_reg x rd word) (pc_behind (length (load_word rd word)) pc) m
+    → steps (length (load_word rd word)) A x pc m ≡ next_state (with_register x rd word) (pc_behind (length (load_word rd word)) pc) m
 li_loads A x m pc rd word len register fits h = li_by A x m pc rd word (is_short word) refl len register fits h
 
 parts_in : Result (List Part) AsmKind → List Part
@@ -120,11 +120,11 @@ parts_in (Err kind) = []
 pub la_loads : (A : Access (List ℕ)) (names : Names) (x m label : List ℕ) (pc rd address : ℕ) (parts : List Part)
     → length x ≡ 32 → IsRegister rd → address < 2 ^ 32 → names label ≡ Some (Label address)
     → parts_of names pc (statements.La rd label) ≡ Ok parts → HasParts A m pc parts
-    → steps 2 A x pc m ≡ next_state (with_reg x rd address) (pc_behind 2 pc) m
+    → steps 2 A x pc m ≡ next_state (with_register x rd address) (pc_behind 2 pc) m
 unfolding parts_of address_of parts_in
 la_loads A names x m label pc rd address parts len register fits known e h =
     let these : Instruction (Lui rd (high_part address)) ∷ Instruction (OpImm Addi rd rd (low_part address)) ∷ [] ≡ parts =
-    sym (ap (λ meaning. parts_in (address_meant meaning >>= λ target. Ok (map Instruction (two_instructions rd target)))) known) ∙ ap parts_in e in
+    sym (ap (λ meaning. parts_in (address_judgment meaning >>= λ target. Ok (map Instruction (two_instructions rd target)))) known) ∙ ap parts_in e in
     two_load A x m pc rd address len register fits (subst (HasParts A m pc) (sym these) h)
 
 -- ---- jumps
@@ -142,17 +142,17 @@ reaches : (reach : ℕ) (names : Names) (label : List ℕ) (pc address : ℕ) (m
 unfolding address_of offset_to
 reaches reach names label pc address make parts known e =
     reached_by (is_reached reach (pos address -ℤ pos pc)) make (pos address -ℤ pos pc) parts
-    (sym (ap (λ meaning. address_meant meaning >>= λ target. offset_to reach pc target >>= λ it. Ok (Instruction (make it) ∷ [])) known) ∙ e)
+    (sym (ap (λ meaning. address_judgment meaning >>= λ target. offset_to reach pc target >>= λ it. Ok (Instruction (make it) ∷ [])) known) ∙ e)
 
 pub jal_jumps : (A : Access (List ℕ)) (names : Names) (x m label : List ℕ) (pc rd address : ℕ) (parts : List Part)
     → pc < 2 ^ 32 → address < 2 ^ 32 → names label ≡ Some (Label address)
     → parts_of names pc (statements.Jal rd label) ≡ Ok parts → HasParts A m pc parts
-    → exec A x pc m ≡ jump_outcome pc address (with_reg x rd (next_pc pc)) m
+    → exec A x pc m ≡ jump_outcome pc address (with_register x rd (next_pc pc)) m
 unfolding parts_of effect_of
 jal_jumps A names x m label pc rd address parts low fits known e h =
     let these = reaches JUMP_REACH names label pc address (λ it. Jal rd it) parts known e in
     let has = subst (HasParts A m pc) (sym these) h in
-    step_is A x m pc has.0 _ has.1 has.2 ∙ ap (λ (n : ℕ). jump_outcome pc n (with_reg x rd (next_pc pc)) m) (lands pc address low fits)
+    step_is A x m pc has.0 _ has.1 has.2 ∙ ap (λ (n : ℕ). jump_outcome pc n (with_register x rd (next_pc pc)) m) (lands pc address low fits)
 
 taken_by : {M : Type 0} (taken : Bool) (then_out else_out : Outcome M) → IsTrue taken → cond taken then_out else_out ≡ then_out
 taken_by true then_out else_out h = refl
@@ -161,11 +161,11 @@ taken_by false then_out else_out h = absurd cc
 pub branch_jumps : (A : Access (List ℕ)) (names : Names) (x m label : List ℕ) (pc rs1 rs2 address : ℕ) (op : BranchOp) (parts : List Part)
     → pc < 2 ^ 32 → address < 2 ^ 32 → names label ≡ Some (Label address)
     → parts_of names pc (statements.Branch op rs1 rs2 label) ≡ Ok parts → HasParts A m pc parts
-    → IsTrue (is_taken op (reg x rs1) (reg x rs2)) → exec A x pc m ≡ jump_outcome pc address x m
+    → IsTrue (is_taken op (register_value x rs1) (register_value x rs2)) → exec A x pc m ≡ jump_outcome pc address x m
 unfolding parts_of effect_of
 branch_jumps A names x m label pc rs1 rs2 address op parts low fits known e h taken =
     let these = reaches BRANCH_REACH names label pc address (λ it. Branch op rs1 rs2 it) parts known e in
     let has = subst (HasParts A m pc) (sym these) h in
     step_is A x m pc has.0 _ has.1 has.2
-    ∙ taken_by (is_taken op (reg x rs1) (reg x rs2)) _ _ taken
+    ∙ taken_by (is_taken op (register_value x rs1) (register_value x rs2)) _ _ taken
     ∙ ap (λ (n : ℕ). jump_outcome pc n x m) (lands pc address low fits)

@@ -5,7 +5,7 @@ use Rattle.rv_asm.specs.declared.fault.AsmKind.{AsmKind}
 use Rattle.rv_asm.specs.declared.fault.AsmFault.{AsmFault}
 use Rattle.ce_text.specs.Line.{cut_parts, before_comment, without_outer_blanks}
 use Rattle.rv_asm.specs.Line.{is_colon}
-use Rattle.rv_asm.specs.FirstPass.{LayoutSoFar, nothing_laid, line_laid}
+use Rattle.rv_asm.specs.FirstPass.{LayoutSoFar, empty_layout, layout_with_line}
 
 abbrev pub label_part : List ℕ × Option (List ℕ) → Option (List ℕ)
 label_part (front, None) = None
@@ -15,39 +15,41 @@ label_part (front, Some rest) = Some (without_outer_blanks front)
 unfoldable pub label_of : List ℕ → Option (List ℕ)
 label_of line = label_part (cut_parts is_colon (before_comment line))
 
-abbrev pub layout_or_given : LayoutSoFar → Result LayoutSoFar AsmKind → LayoutSoFar
-layout_or_given laid (Ok next) = next
-layout_or_given laid (Err kind) = laid
+abbrev pub layout_behind_line : LayoutSoFar → Result LayoutSoFar AsmKind → LayoutSoFar
+layout_behind_line layout (Ok next) = next
+layout_behind_line layout (Err kind) = layout
 
--- what is laid once lines are done, of which the first has the number behind this one: a line with a fault lays nothing
+-- what is laid once lines are done, of which the first has the number behind this one: a line with
+-- a fault lays nothing
 unfoldable pub layout_of_lines : ℕ → LayoutSoFar → List (List ℕ) → LayoutSoFar
-layout_of_lines before laid [] = laid
-layout_of_lines before laid (line ∷ lines) = layout_of_lines (before + 1) (layout_or_given laid (line_laid (before + 1) laid line)) lines
+layout_of_lines before layout [] = layout
+layout_of_lines before layout (line ∷ lines) = layout_of_lines (before + 1)
+    (layout_behind_line layout (layout_with_line (before + 1) layout line)) lines
 
 -- what stands before a line of a text, which is counted from 0
 abbrev pub layout_before : List (List ℕ) → ℕ → LayoutSoFar
-layout_before lines i = layout_of_lines 0 nothing_laid (take i lines)
+layout_before lines i = layout_of_lines 0 empty_layout (take i lines)
 
 -- a line of a text, counted from 0
 abbrev pub line_at : List (List ℕ) → ℕ → List ℕ
 line_at lines i = slice_index_or lines i []
 
 -- the judgment of a line, after those before it: what is laid then, or the fault of the line
-abbrev pub judged_line : List (List ℕ) → ℕ → Result LayoutSoFar AsmKind
-judged_line lines i = line_laid (i + 1) (layout_before lines i) (line_at lines i)
+abbrev pub layout_judgment : List (List ℕ) → ℕ → Result LayoutSoFar AsmKind
+layout_judgment lines i = layout_with_line (i + 1) (layout_before lines i) (line_at lines i)
 
 -- the line of a fault is the first that has one, and the kind is that line's
 pub record IsFirstFault (lines : List (List ℕ)) (fault : AsmFault) : Type 0 where
   pub place : ℕ
   pub number : fault.line ≡ place + 1
   pub within : place < length lines
-  pub here : judged_line lines place ≡ Err fault.kind
-  pub before : (i : ℕ) → i < place → IsOk (judged_line lines i)
+  pub here : layout_judgment lines place ≡ Err fault.kind
+  pub before : (i : ℕ) → i < place → IsOk (layout_judgment lines i)
 
 -- no line has a fault, and this is what they lay
-pub record AreLaid (lines : List (List ℕ)) (laid : LayoutSoFar) : Type 0 where
-  pub each : (i : ℕ) → i < length lines → IsOk (judged_line lines i)
-  pub all : layout_before lines (length lines) ≡ laid
+pub record AreLaid (lines : List (List ℕ)) (layout : LayoutSoFar) : Type 0 where
+  pub each : (i : ℕ) → i < length lines → IsOk (layout_judgment lines i)
+  pub all : layout_before lines (length lines) ≡ layout
 
 -- the address of a line's label: where what it lays begins
 abbrev pub address_at : List (List ℕ) → ℕ → ℕ

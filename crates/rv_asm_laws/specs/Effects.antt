@@ -9,7 +9,8 @@ use Rattle.rv_asm.specs.SecondPass.{Part, Instruction, Plain}
 abbrev pub HasInstructions : Access (List ℕ) → List ℕ → ℕ → List Inst → Type 0
 HasInstructions A m pc [] = Unit {0}
 HasInstructions A m pc (inst ∷ insts) =
-    (word : ℕ) × (A.fetch m pc ≡ Ok word) × (dec word ≡ Some inst) × HasInstructions A m (next_pc pc) insts
+    (word : ℕ) × (A.fetch m pc ≡ Ok word) × (dec word ≡ Some inst)
+    × HasInstructions A m (next_pc pc) insts
 
 -- the same of the parts of an image
 abbrev pub HasParts : Access (List ℕ) → List ℕ → ℕ → List Part → Type 0
@@ -19,15 +20,16 @@ HasParts A m pc (Instruction inst ∷ parts) =
 HasParts A m pc (Plain bytes ∷ parts) = HasParts A m (pc + length bytes) parts
 
 -- what comes after a step: so many more, if it went
-abbrev pub then_steps : (List ℕ → ℕ → List ℕ → Outcome (List ℕ)) → Outcome (List ℕ) → Outcome (List ℕ)
-then_steps next (next_state x pc m) = next x pc m
-then_steps next (call_state x pc m) = call_state x pc m
-then_steps next (stop_state cause) = stop_state cause
+abbrev pub outcome_after_step : (List ℕ → ℕ → List ℕ → Outcome (List ℕ)) → Outcome (List ℕ)
+    → Outcome (List ℕ)
+outcome_after_step next (next_state x pc m) = next x pc m
+outcome_after_step next (call_state x pc m) = call_state x pc m
+outcome_after_step next (stop_state cause) = stop_state cause
 
 -- so many steps, one after the other
 abbrev pub steps : ℕ → Access (List ℕ) → List ℕ → ℕ → List ℕ → Outcome (List ℕ)
 steps zero A x pc m = next_state x pc m
-steps (suc n) A x pc m = then_steps (steps n A) (exec A x pc m)
+steps (suc n) A x pc m = outcome_after_step (steps n A) (exec A x pc m)
 
 -- the address behind so many instructions
 abbrev pub pc_behind : ℕ → ℕ → ℕ

@@ -1,5 +1,5 @@
--- What belongs in the places of a statement's operands, and how operands are faulty there: each kind of fault is a test of
--- its own on an operand and on what names mean before its line.
+-- What belongs in the places of a statement's operands, and how operands are faulty there: each
+-- kind of fault is a test of its own on an operand and on what names mean before its line.
 use Rattle.std.specs.Prelude.{ℕ, Bool, false, not, ◌&&◌, ◌||◌, ◌==◌, if◌then◌else◌, max, List, [], ◌∷◌, replicate, Option, Some, None, is_none, length, ℤ, pos, int_le}
 use Rattle.rv_model.specs.declared.limits.TheConstants.{GREATEST_IMMEDIATE, GREATEST_UPPER, LEAST_IMMEDIATE, IMAGE_ROOM}
 use Rattle.rv_asm.specs.declared.statement.TheConstants.{GREATEST_BYTE, LEAST_BYTE}
@@ -32,14 +32,14 @@ pub data Form : Type 0 where
 -- ---- numbers
 
 -- the number that a name stands for: the one that an earlier `.equ` gave
-abbrev pub number_meant : Option Symbol → Option ℤ
-number_meant (Some (Number n)) = Some n
-number_meant (Some (Label address)) = None
-number_meant None = None
+abbrev pub symbol_number : Option Symbol → Option ℤ
+symbol_number (Some (Number n)) = Some n
+symbol_number (Some (Label address)) = None
+symbol_number None = None
 
 -- the number that a token gives: a name's, and else the one that is written
-abbrev pub number_given : Names → List ℕ → Option ℤ
-number_given names token = if is_name token then number_meant (names token) else literal_of token
+abbrev pub token_number : Names → List ℕ → Option ℤ
+token_number names token = if is_name token then symbol_number (names token) else literal_of token
 
 -- neither a name nor a number
 abbrev pub is_no_number : List ℕ → Bool
@@ -47,7 +47,7 @@ is_no_number token = not (is_name token) && is_none (literal_of token)
 
 -- a name that no earlier `.equ` gave
 abbrev pub is_unknown : Names → List ℕ → Bool
-is_unknown names token = is_name token && is_none (number_meant (names token))
+is_unknown names token = is_name token && is_none (symbol_number (names token))
 
 abbrev pub is_outside : ℤ → ℤ → Option ℤ → Bool
 is_outside least greatest None = false
@@ -57,26 +57,28 @@ is_outside least greatest (Some n) = not (int_le least n && int_le n greatest)
 
 abbrev pub is_bracketed : Option (List ℕ) → Bool
 is_bracketed None = false
-is_bracketed (Some behind) = is_closed (cut_parts is_closing behind).1
+is_bracketed (Some rest) = is_closed (cut_parts is_closing rest).1
 
 -- what stands before the opening bracket
 abbrev pub offset_text : List ℕ → List ℕ
 offset_text text = without_outer_blanks (cut_parts is_opening text).0
 
-abbrev pub base_behind : Option (List ℕ) → List ℕ
-base_behind None = []
-base_behind (Some behind) = without_outer_blanks (cut_parts is_closing behind).0
+abbrev pub base_part : Option (List ℕ) → List ℕ
+base_part None = []
+base_part (Some rest) = without_outer_blanks (cut_parts is_closing rest).0
 
 -- what stands between the brackets
 abbrev pub base_text : List ℕ → List ℕ
-base_text text = base_behind (cut_parts is_opening text).1
+base_text text = base_part (cut_parts is_opening text).1
 
 -- ---- faults of an operand
 
 -- it has not the form that belongs in its place
 unfoldable pub is_malformed : Form → List ℕ → Bool
 is_malformed a_name text = not (is_name text)
-is_malformed a_memory text = not (is_bracketed (cut_parts is_opening text).1 && is_token (offset_text text) && is_token (base_text text))
+is_malformed a_memory text = not
+    (is_bracketed (cut_parts is_opening text).1 && is_token (offset_text text)
+    && is_token (base_text text))
 is_malformed form text = not (is_token text)
 
 -- where a register belongs, there is none
@@ -89,8 +91,10 @@ lacks_register form text = false
 unfoldable pub lacks_number : Names → Form → List ℕ → Bool
 lacks_number names any_number text = is_no_number text
 lacks_number names a_value text = is_no_number text
-lacks_number names (a_number least greatest) text = is_no_number text || is_outside least greatest (number_given names text)
-lacks_number names a_memory text = is_no_number (offset_text text) || is_outside LEAST_IMMEDIATE GREATEST_IMMEDIATE (number_given names (offset_text text))
+lacks_number names (a_number least greatest) text =
+    is_no_number text || is_outside least greatest (token_number names text)
+lacks_number names a_memory text = is_no_number (offset_text text)
+    || is_outside LEAST_IMMEDIATE GREATEST_IMMEDIATE (token_number names (offset_text text))
 lacks_number names form text = false
 
 -- where a number belongs, there is a name that no earlier `.equ` gave
@@ -103,9 +107,13 @@ lacks_name names form text = false
 -- ---- faults of a statement's operands
 
 -- the first of the kinds that operands can have
-abbrev pub first_kind : (malformed register number name : Bool) → Option AsmKind
-first_kind malformed register number name =
-    if malformed then Some Operands else (if register then Some BadRegister else (if number then Some BadNumber else (if name then Some UnknownName else None)))
+abbrev pub first_kind : (has_malformed has_no_register has_no_number has_no_name : Bool)
+    → Option AsmKind
+first_kind has_malformed has_no_register has_no_number has_no_name =
+    if has_malformed then Some Operands
+    else (if has_no_register then Some BadRegister
+    else (if has_no_number then Some BadNumber
+    else (if has_no_name then Some UnknownName else None)))
 
 -- some operand passes a test in its place
 abbrev pub has_operand : (Form → List ℕ → Bool) → List Form → List (List ℕ) → Bool
@@ -126,7 +134,8 @@ abbrev pub operand_texts : List ℕ → List (List ℕ)
 operand_texts [] = []
 operand_texts (byte ∷ bytes) = pieces (byte ∷ bytes)
 
--- what belongs in the places of so many operands; `.word` and `.byte` have any number of them but none
+-- what belongs in the places of so many operands; `.word` and `.byte` have any number of them but
+-- none
 abbrev pub forms_of : Mnemonic → ℕ → List Form
 forms_of (mnemonics.Plain inst) count = []
 forms_of mnemonics.Lui count = a_register ∷ a_number (pos 0) GREATEST_UPPER ∷ []
@@ -134,7 +143,8 @@ forms_of mnemonics.Auipc count = a_register ∷ a_number (pos 0) GREATEST_UPPER 
 forms_of mnemonics.Jalr count = a_register ∷ a_memory ∷ []
 forms_of (mnemonics.Load op) count = a_register ∷ a_memory ∷ []
 forms_of (mnemonics.Store op) count = a_register ∷ a_memory ∷ []
-forms_of (mnemonics.OpImm op) count = a_register ∷ a_register ∷ a_number (least_immediate op) (greatest_immediate op) ∷ []
+forms_of (mnemonics.OpImm op) count =
+    a_register ∷ a_register ∷ a_number (least_immediate op) (greatest_immediate op) ∷ []
 forms_of (mnemonics.Op op) count = a_register ∷ a_register ∷ a_register ∷ []
 forms_of mnemonics.Mv count = a_register ∷ a_register ∷ []
 forms_of mnemonics.Li count = a_register ∷ any_number ∷ []

@@ -1,4 +1,5 @@
--- The faults of labels: each kind is a test of its own on a statement, its address and what names mean in the whole text.
+-- The faults of labels: each kind is a test of its own on a statement, its address and what names
+-- mean in the whole text.
 use Rattle.std.specs.Prelude.{◌≡◌, ℕ, ◌+◌, ◌<◌, Bool, false, true, not, if◌then◌else◌, List, slice_get, take, sum_by, Option, Some, None, pos, ◌-ℤ◌}
 use Rattle.rv_model.specs.declared.limits.TheConstants.{BRANCH_REACH, JUMP_REACH}
 use Rattle.rv_asm.specs.declared.fault.AsmKind.{AsmKind}
@@ -36,32 +37,40 @@ is_far reach address None = false
 -- a jump or a branch does not reach its label
 abbrev pub goes_too_far : Names → ℕ → Statement → Bool
 goes_too_far names address (statements.Jal rd label) = is_far JUMP_REACH address (names label)
-goes_too_far names address (statements.Branch op rs1 rs2 label) = is_far BRANCH_REACH address (names label)
+goes_too_far names address (statements.Branch op rs1 rs2 label) =
+    is_far BRANCH_REACH address (names label)
 goes_too_far names address statement = false
 
 -- the fault of a statement's label
 abbrev pub label_fault : Names → ℕ → Statement → Option AsmKind
 label_fault names address statement =
-    if lacks_label names statement then Some UnknownName else (if goes_too_far names address statement then Some TooFar else None)
+    if lacks_label names statement then Some UnknownName
+    else (if goes_too_far names address statement then Some TooFar else None)
 
 -- the address of a statement among those that are laid from an address on
 abbrev pub statement_address : ℕ → List PlacedStatement → ℕ → ℕ
-statement_address address placed i = address + sum_by (λ it. size_of it.statement) (take i placed)
+statement_address address placed_statements i =
+    address + sum_by (λ it. size_of it.statement) (take i placed_statements)
 
 -- the fault of a statement among those, counted from 0
-abbrev pub numbered_label_fault : Names → ℕ → List PlacedStatement → ℕ → PlacedStatement → Option AsmKind
-numbered_label_fault names address placed i it = label_fault names (statement_address address placed i) it.statement
+abbrev pub numbered_label_fault : Names → ℕ → List PlacedStatement → ℕ → PlacedStatement
+    → Option AsmKind
+numbered_label_fault names address placed_statements i it =
+    label_fault names (statement_address address placed_statements i) it.statement
 
 -- The line and kind of a fault are those of the first statement whose label has one.
-pub record IsFirstLabelFault (names : Names) (address : ℕ) (placed : List PlacedStatement) (fault : AsmFault) : Type 0 where
+pub record IsFirstLabelFault (names : Names) (address : ℕ)
+    (placed_statements : List PlacedStatement) (fault : AsmFault) : Type 0 where
   pub place : ℕ
   pub it : PlacedStatement
-  pub here : slice_get placed place ≡ Some it
+  pub here : slice_get placed_statements place ≡ Some it
   pub line : fault.line ≡ it.line
-  pub kind : numbered_label_fault names address placed place it ≡ Some fault.kind
-  pub before : (i : ℕ) (other : PlacedStatement) → i < place → slice_get placed i ≡ Some other → numbered_label_fault names address placed i other ≡ None
+  pub kind : numbered_label_fault names address placed_statements place it ≡ Some fault.kind
+  pub before : (i : ℕ) (other : PlacedStatement) → i < place → slice_get placed_statements i
+      ≡ Some other → numbered_label_fault names address placed_statements i other ≡ None
 
 -- no statement's label has a fault
 abbrev pub HasLabels : Names → ℕ → List PlacedStatement → Type 0
-HasLabels names address placed =
-    (i : ℕ) (it : PlacedStatement) → slice_get placed i ≡ Some it → numbered_label_fault names address placed i it ≡ None
+HasLabels names address placed_statements =
+    (i : ℕ) (it : PlacedStatement) → slice_get placed_statements i ≡ Some it
+    → numbered_label_fault names address placed_statements i it ≡ None

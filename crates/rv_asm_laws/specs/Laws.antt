@@ -1,6 +1,6 @@
 -- What holds of the assembler, a law at a time.
 use Rattle.std.specs.Prelude.{◌≡◌, ◌<◌, ◌≤◌, ◌+◌, ◌*◌, ◌^◌, map, ℕ, List, length, Some, Ok, IsTrue, Err, ◌≢◌, codes, ◌++◌, ◌∷◌, [], true, false}
-use Rattle.rv_model.specs.Exec.{Access, next_state, with_reg, reg, exec, jump_outcome, is_taken, next_pc}
+use Rattle.rv_model.specs.Exec.{Access, next_state, with_register, register_value, exec, jump_outcome, is_taken, next_pc}
 use Rattle.rv_model.specs.declared.inst.BranchOp.{BranchOp}
 use Rattle.rv_inst.specs.Valid.{IsRegister}
 use Rattle.rv_asm_laws.specs.Effects.{HasInstructions, HasParts, steps, pc_behind}
@@ -9,7 +9,7 @@ use Rattle.rv_asm_laws.specs.Listing.{IsListing}
 use Rattle.rv_asm.specs.Sizes.{statements_size}
 use Rattle.rv_model.specs.declared.inst.Inst.{Inst}
 use Rattle.ce_text.specs.Line.{line_texts}
-use Rattle.rv_asm.specs.FirstPass.{LayoutSoFar, statement, line_laid, first_pass}
+use Rattle.rv_asm.specs.FirstPass.{LayoutSoFar, layout_with_statement_text, layout_with_line, first_pass}
 use Rattle.rv_asm_laws.specs.Before.{label_of, line_at, address_at, layout_before, IsFirstFault, AreLaid}
 use Rattle.rv_asm.specs.Line.{is_colon, is_opening, is_closing, colon, comma, opening_bracket, closing_bracket}
 use Rattle.rv_asm.specs.Operand.{memory}
@@ -24,7 +24,7 @@ use Rattle.rv_asm.specs.declared.statement.Statement.{Statement}
 use Rattle.rv_asm.specs.declared.statement.PlacedStatement.{PlacedStatement}
 use Rattle.rv_asm.specs.Statements.{load_word, statements_of}
 use Rattle.std.specs.Result.{result_err}
-use Rattle.rv_model.specs.declared.limits.TheConstants.{PRIVATE_START, IMAGE_ROOM, REGISTER_COUNT}
+use Rattle.rv_model.specs.declared.limits.TheConstants.{PRIVATE_START, IMAGE_ROOM, REGISTER_COUNT, WORD_SIZE}
 use Rattle.rv_asm.specs.SecondPass.{Part, Instruction, parts_of, second_pass}
 use Rattle.rv_asm.specs.declared.fault.AsmFault.{AsmFault}
 use Rattle.rv_asm.specs.declared.symbols.Symbol.TheVariants.{Label}
@@ -33,17 +33,19 @@ use Rattle.rv_asm.specs.declared.statement.Statement.TheVariants as statements
 -- the instructions of `li rd, n` leave n modulo 2^32 in rd
 abbrev pub LiLoads : Type 0
 LiLoads = (A : Access (List ℕ)) (x m : List ℕ) (pc rd word : ℕ)
-    → length x ≡ REGISTER_COUNT → IsRegister rd → word < 2 ^ 32 → HasInstructions A m pc (load_word rd word)
+    → length x ≡ REGISTER_COUNT → IsRegister rd → word < 2 ^ 32
+    → HasInstructions A m pc (load_word rd word)
     → let count = length (load_word rd word) in
-    steps count A x pc m ≡ next_state (with_reg x rd word) (pc_behind count pc) m
+    steps count A x pc m ≡ next_state (with_register x rd word) (pc_behind count pc) m
 
 -- those of `la rd, label` leave the label's address in rd
 abbrev pub LaLoads : Type 0
 LaLoads = (A : Access (List ℕ)) (names : Names) (x m label : List ℕ)
     (pc rd address : ℕ) (parts : List Part)
-    → length x ≡ REGISTER_COUNT → IsRegister rd → address < 2 ^ 32 → names label ≡ Some (Label address)
+    → length x ≡ REGISTER_COUNT → IsRegister rd → address < 2 ^ 32 → names label
+    ≡ Some (Label address)
     → parts_of names pc (statements.La rd label) ≡ Ok parts → HasParts A m pc parts
-    → steps 2 A x pc m ≡ next_state (with_reg x rd address) (pc_behind 2 pc) m
+    → steps 2 A x pc m ≡ next_state (with_register x rd address) (pc_behind 2 pc) m
 
 -- a jump goes to the address of its label
 abbrev pub JumpsReach : Type 0
@@ -51,7 +53,7 @@ JumpsReach = (A : Access (List ℕ)) (names : Names) (x m label : List ℕ)
     (pc rd address : ℕ) (parts : List Part)
     → pc < 2 ^ 32 → address < 2 ^ 32 → names label ≡ Some (Label address)
     → parts_of names pc (statements.Jal rd label) ≡ Ok parts → HasParts A m pc parts
-    → exec A x pc m ≡ jump_outcome pc address (with_reg x rd (next_pc pc)) m
+    → exec A x pc m ≡ jump_outcome pc address (with_register x rd (next_pc pc)) m
 
 -- so does a branch that is taken
 abbrev pub BranchesReach : Type 0
@@ -59,7 +61,8 @@ BranchesReach = (A : Access (List ℕ)) (names : Names) (x m label : List ℕ)
     (pc rs1 rs2 address : ℕ) (op : BranchOp) (parts : List Part)
     → pc < 2 ^ 32 → address < 2 ^ 32 → names label ≡ Some (Label address)
     → parts_of names pc (statements.Branch op rs1 rs2 label) ≡ Ok parts → HasParts A m pc parts
-    → IsTrue (is_taken op (reg x rs1) (reg x rs2)) → exec A x pc m ≡ jump_outcome pc address x m
+    → IsTrue (is_taken op (register_value x rs1) (register_value x rs2)) → exec A x pc m
+    ≡ jump_outcome pc address x m
 
 -- the address of a line is the start of the image and the sizes of all that is laid before it
 abbrev pub AddressesAreSizes : Type 0
@@ -68,22 +71,23 @@ AddressesAreSizes = (text : List (List ℕ)) (i : ℕ)
 
 -- a label's address is that of its line
 abbrev pub LabelsHaveAddresses : Type 0
-LabelsHaveAddresses = (text name : List ℕ) (laid : LayoutSoFar) (i : ℕ) → first_pass text ≡ Ok laid
+LabelsHaveAddresses =
+    (text name : List ℕ) (layout : LayoutSoFar) (i : ℕ) → first_pass text ≡ Ok layout
     → i < length (line_texts text) → label_of (line_at (line_texts text) i) ≡ Some name
-    → laid.names name ≡ Some (Label (address_at (line_texts text) i))
+    → layout.names name ≡ Some (Label (address_at (line_texts text) i))
 
 -- the entry is the address of the line with the label `start`
 abbrev pub EntriesAreLabelled : Type 0
-EntriesAreLabelled = (text : List ℕ) (laid : LayoutSoFar) (i : ℕ) → first_pass text ≡ Ok laid
+EntriesAreLabelled = (text : List ℕ) (layout : LayoutSoFar) (i : ℕ) → first_pass text ≡ Ok layout
     → i < length (line_texts text) → label_of (line_at (line_texts text) i) ≡ Some (codes "start")
-    → entry_of laid.names ≡ address_at (line_texts text) i
+    → entry_of layout.names ≡ address_at (line_texts text) i
 
 -- the entry is the start of the image where no line has this label
 abbrev pub UnlabelledEntriesAreStarts : Type 0
-UnlabelledEntriesAreStarts = (text : List ℕ) (laid : LayoutSoFar) → first_pass text ≡ Ok laid
+UnlabelledEntriesAreStarts = (text : List ℕ) (layout : LayoutSoFar) → first_pass text ≡ Ok layout
     → ((i : ℕ) → i < length (line_texts text)
     → label_of (line_at (line_texts text) i) ≢ Some (codes "start"))
-    → entry_of laid.names ≡ PRIVATE_START
+    → entry_of layout.names ≡ PRIVATE_START
 
 -- the first pass answers the first line that has a fault
 abbrev pub FirstFaultsAreAnswered : Type 0
@@ -92,8 +96,8 @@ FirstFaultsAreAnswered = (text : List ℕ) (fault : AsmFault) → first_pass tex
 
 -- and what the lines lay, where none has one
 abbrev pub AllLinesAreLaid : Type 0
-AllLinesAreLaid = (text : List ℕ) (laid : LayoutSoFar) → first_pass text ≡ Ok laid
-    → AreLaid (line_texts text) laid
+AllLinesAreLaid = (text : List ℕ) (layout : LayoutSoFar) → first_pass text ≡ Ok layout
+    → AreLaid (line_texts text) layout
 
 -- the fault of operands is the first kind that some operand has
 abbrev pub OperandFaultsAreInOrder : Type 0
@@ -103,8 +107,8 @@ OperandFaultsAreInOrder = (mnemonic : Mnemonic) (names : Names) (operands : List
 
 -- the fault of a line is the first kind that it has
 abbrev pub LineFaultsAreInOrder : Type 0
-LineFaultsAreInOrder = (number : ℕ) (laid : LayoutSoFar) (line : List ℕ)
-    → result_err (line_laid number laid line) ≡ line_fault laid line
+LineFaultsAreInOrder = (number : ℕ) (layout : LayoutSoFar) (line : List ℕ)
+    → result_err (layout_with_line number layout line) ≡ line_fault layout line
 
 -- the fault of a statement's label is the first kind that it has
 abbrev pub LabelFaultsAreInOrder : Type 0
@@ -113,43 +117,47 @@ LabelFaultsAreInOrder = (names : Names) (address : ℕ) (statement : Statement)
 
 -- the second pass answers the first statement whose label has a fault
 abbrev pub FirstLabelFaultsAreAnswered : Type 0
-FirstLabelFaultsAreAnswered = (names : Names) (address : ℕ) (placed : List PlacedStatement) (fault : AsmFault)
-    → second_pass names address placed ≡ Err fault
-    → IsFirstLabelFault names address placed fault
+FirstLabelFaultsAreAnswered =
+    (names : Names) (address : ℕ) (placed_statements : List PlacedStatement) (fault : AsmFault)
+    → second_pass names address placed_statements ≡ Err fault
+    → IsFirstLabelFault names address placed_statements fault
 
 -- where it answers parts, none has one
 abbrev pub AllLabelsAreThere : Type 0
-AllLabelsAreThere = (names : Names) (address : ℕ) (placed : List PlacedStatement) (parts : List Part)
-    → second_pass names address placed ≡ Ok parts → HasLabels names address placed
+AllLabelsAreThere =
+    (names : Names) (address : ℕ) (placed_statements : List PlacedStatement) (parts : List Part)
+    → second_pass names address placed_statements ≡ Ok parts
+    → HasLabels names address placed_statements
 
 -- a listing assembles to its instructions, and is entered at the first
 abbrev pub ListingsAreAssembled : Type 0
 ListingsAreAssembled = (text : List ℕ) (insts : List Inst) → IsListing (line_texts text) insts
-    → 0 < length insts → 4 * length insts ≤ IMAGE_ROOM
+    → 0 < length insts → WORD_SIZE * length insts ≤ IMAGE_ROOM
     → assembly_of text ≡ Ok (record { entry = PRIVATE_START; parts = map Instruction insts })
 
 -- ---- blanks change nothing
 
 -- at the ends of a line
 abbrev pub EndBlanksGo : Type 0
-EndBlanksGo = (number : ℕ) (laid : LayoutSoFar) (before line after : List ℕ)
+EndBlanksGo = (number : ℕ) (layout : LayoutSoFar) (before line after : List ℕ)
     → list_all is_blank before ≡ true → list_all is_blank after ≡ true
-    → line_laid number laid (before ++ line ++ after) ≡ line_laid number laid line
+    → layout_with_line number layout (before ++ line ++ after) ≡ layout_with_line number layout line
 
 -- round a colon
 abbrev pub ColonBlanksGo : Type 0
-ColonBlanksGo = (number : ℕ) (laid : LayoutSoFar) (label before after rest : List ℕ)
+ColonBlanksGo = (number : ℕ) (layout : LayoutSoFar) (label before after rest : List ℕ)
     → list_any is_hash label ≡ false → list_any is_colon label ≡ false
     → list_all is_blank before ≡ true → list_all is_blank after ≡ true
-    → line_laid number laid (label ++ before ++ colon ∷ (after ++ rest))
-    ≡ line_laid number laid (label ++ colon ∷ rest)
+    → layout_with_line number layout (label ++ before ++ colon ∷ (after ++ rest))
+    ≡ layout_with_line number layout (label ++ colon ∷ rest)
 
 -- behind a mnemonic
 abbrev pub WordBlanksGo : Type 0
-WordBlanksGo = (number : ℕ) (laid : LayoutSoFar) (word : List ℕ) (blank : ℕ) (blanks operands : List ℕ)
+WordBlanksGo =
+    (number : ℕ) (layout : LayoutSoFar) (word : List ℕ) (blank : ℕ) (blanks operands : List ℕ)
     → list_any is_blank word ≡ false → is_blank blank ≡ true → list_all is_blank blanks ≡ true
-    → statement number laid (word ++ blank ∷ (blanks ++ operands))
-    ≡ statement number laid (word ++ blank ∷ operands)
+    → layout_with_statement_text number layout (word ++ blank ∷ (blanks ++ operands))
+    ≡ layout_with_statement_text number layout (word ++ blank ∷ operands)
 
 -- round a comma
 abbrev pub CommaBlanksGo : Type 0
@@ -163,7 +171,8 @@ abbrev pub OpeningBlanksGo : Type 0
 OpeningBlanksGo = (names : Names) (number before after base : List ℕ)
     → list_any is_opening number ≡ false
     → list_all is_blank before ≡ true → list_all is_blank after ≡ true
-    → memory names (number ++ before ++ opening_bracket ∷ (after ++ base)) ≡ memory names (number ++ opening_bracket ∷ base)
+    → memory names (number ++ before ++ opening_bracket ∷ (after ++ base))
+    ≡ memory names (number ++ opening_bracket ∷ base)
 
 -- round a closing bracket
 abbrev pub ClosingBlanksGo : Type 0
@@ -175,5 +184,6 @@ ClosingBlanksGo = (names : Names) (number base before after : List ℕ)
 
 -- a comment changes nothing
 abbrev pub CommentsGo : Type 0
-CommentsGo = (number : ℕ) (laid : LayoutSoFar) (line comment : List ℕ) → list_any is_hash line ≡ false
-    → line_laid number laid (line ++ hash ∷ comment) ≡ line_laid number laid line
+CommentsGo =
+    (number : ℕ) (layout : LayoutSoFar) (line comment : List ℕ) → list_any is_hash line ≡ false
+    → layout_with_line number layout (line ++ hash ∷ comment) ≡ layout_with_line number layout line

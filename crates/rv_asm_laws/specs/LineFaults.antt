@@ -1,7 +1,8 @@
--- The fault of a line: each kind is a test of its own on the line and on what stands before it, and the first kind that the
--- line has is answered.
+-- The fault of a line: each kind is a test of its own on the line and on what stands before it, and
+-- the first kind that the line has is answered.
 use Rattle.std.specs.Prelude.{ℕ, ◌+◌, ◌%◌, Bool, false, true, not, ◌&&◌, ◌||◌, ◌==◌, nat_lt, if◌then◌else◌, List, [], ◌∷◌, sum_by, Option, Some, None, is_none, Result, Ok, Err, bytes_eq, codes}
 use Rattle.std.specs.List.{list_all, list_any}
+use Rattle.std.specs.Option.{option_or}
 use Rattle.rv_model.specs.declared.limits.TheConstants.{PRIVATE_START, IMAGE_ROOM, WORD_SIZE}
 use Rattle.rv_asm.specs.declared.fault.AsmKind.{AsmKind}
 use Rattle.rv_asm.specs.declared.fault.AsmKind.TheVariants.{BadByte, NameTaken, UnknownWord, Unaligned, TooLarge}
@@ -32,20 +33,21 @@ abbrev pub statement_text : List ℕ → List ℕ
 statement_text line = statement_part (cut_parts is_colon (before_comment line))
 
 -- the word of a statement
-abbrev pub word_in : List ℕ → List ℕ
-word_in statement = (cut_parts is_blank statement).0
+abbrev pub statement_word : List ℕ → List ℕ
+statement_word statement = (cut_parts is_blank statement).0
 
 -- what stands behind the word
-abbrev pub operands_in : List ℕ → List ℕ
-operands_in statement = operands_of (cut_parts is_blank statement).1
+abbrev pub statement_operands : List ℕ → List ℕ
+statement_operands statement = operands_of (cut_parts is_blank statement).1
 
 abbrev pub is_equ : List ℕ → Bool
-is_equ statement = bytes_eq (word_in statement) (codes ".equ")
+is_equ statement = bytes_eq (statement_word statement) (codes ".equ")
 
 -- what names mean once a line's label is defined
-abbrev pub names_with : LayoutSoFar → Option (List ℕ) → Names
-names_with laid None = laid.names
-names_with laid (Some label) = with_name laid.names label (Label (PRIVATE_START + laid.size))
+abbrev pub names_with_label : LayoutSoFar → Option (List ℕ) → Names
+names_with_label layout None = layout.names
+names_with_label layout (Some label) =
+    with_name layout.names label (Label (PRIVATE_START + layout.size))
 
 -- what a statement other than `.equ` lays
 abbrev pub statements_or_none : Result (List Statement) AsmKind → List Statement
@@ -62,41 +64,45 @@ is_of_words mnemonic = true
 
 -- `.equ` gives a name that means something already
 abbrev pub takes_name : Names → List ℕ → Bool
-takes_name names statement = is_equ statement && is_taken names (without_outer_blanks (cut_parts is_comma (operands_in statement)).0)
+takes_name names statement = is_equ statement
+    && is_taken names (without_outer_blanks (cut_parts is_comma (statement_operands statement)).0)
 
 -- a second colon, or a word that begins nothing
 abbrev pub is_strange : List ℕ → Bool
 is_strange [] = false
-is_strange (byte ∷ bytes) = not (is_equ (byte ∷ bytes)) && is_none (mnemonic_of (word_in (byte ∷ bytes)))
+is_strange (byte ∷ bytes) =
+    not (is_equ (byte ∷ bytes)) && is_none (mnemonic_of (statement_word (byte ∷ bytes)))
 
 -- the fault of the operands
 abbrev pub operand_kind : Names → Bool → Option Mnemonic → List ℕ → Option AsmKind
-operand_kind names true mnemonic operands = operands_fault names (a_name ∷ any_number ∷ []) (operand_texts operands)
+operand_kind names true mnemonic operands =
+    operands_fault names (a_name ∷ any_number ∷ []) (operand_texts operands)
 operand_kind names false None operands = None
 operand_kind names false (Some mnemonic) operands = statement_fault names mnemonic operands
 
--- a word of the image at an address that is no multiple of 4, or more bytes than an image has room for
+-- a word of the image at an address that is no multiple of 4, or more bytes than an image has room
+-- for
 abbrev pub room_kind : ℕ → Bool → ℕ → Option AsmKind
-room_kind size of_words more =
-    if of_words && not (size % WORD_SIZE == 0) then Some Unaligned else (if nat_lt IMAGE_ROOM (size + more) then Some TooLarge else None)
+room_kind size has_words added_size =
+    if has_words && not (size % WORD_SIZE == 0) then Some Unaligned
+    else (if nat_lt IMAGE_ROOM (size + added_size) then Some TooLarge else None)
 
 abbrev pub place_kind : Names → ℕ → Bool → Option Mnemonic → List ℕ → Option AsmKind
 place_kind names size true mnemonic operands = None
 place_kind names size false None operands = None
-place_kind names size false (Some mnemonic) operands = room_kind size (is_of_words mnemonic) (sum_by size_of (statements_or_none (statements_of mnemonic names operands)))
-
--- the first of two kinds that is there
-abbrev pub or_then : Option AsmKind → Option AsmKind → Option AsmKind
-or_then None second = second
-or_then (Some kind) second = Some kind
+place_kind names size false (Some mnemonic) operands = room_kind size (is_of_words mnemonic)
+    (sum_by size_of (statements_or_none (statements_of mnemonic names operands)))
 
 -- the fault of a statement whose word is known
 abbrev pub statement_kind : Names → ℕ → List ℕ → Option AsmKind
 statement_kind names size [] = None
 statement_kind names size (byte ∷ bytes) =
     let statement = byte ∷ bytes in
-    or_then (operand_kind names (is_equ statement) (mnemonic_of (word_in statement)) (operands_in statement))
-    (place_kind names size (is_equ statement) (mnemonic_of (word_in statement)) (operands_in statement))
+    option_or
+    (operand_kind names (is_equ statement) (mnemonic_of (statement_word statement))
+    (statement_operands statement))
+    (place_kind names size (is_equ statement) (mnemonic_of (statement_word statement))
+    (statement_operands statement))
 
 -- ---- a line
 
@@ -113,13 +119,17 @@ abbrev pub has_colon : List ℕ → Bool
 has_colon statement = list_any is_colon statement
 
 -- the fault of a line, from its label and what stands behind it
-abbrev pub fault_behind : LayoutSoFar → Option (List ℕ) → List ℕ → Option AsmKind
-fault_behind laid label statement =
-    let names = names_with laid label in
-    if not (is_bad_label label) && (is_taken_label laid.names label || (not (has_colon statement) && takes_name names statement)) then Some NameTaken
-    else (if is_bad_label label || (has_colon statement || is_strange statement) then Some UnknownWord else statement_kind names laid.size statement)
+abbrev pub labelled_line_fault : LayoutSoFar → Option (List ℕ) → List ℕ → Option AsmKind
+labelled_line_fault layout label statement =
+    let names = names_with_label layout label in
+    if not (is_bad_label label)
+    && (is_taken_label layout.names label
+    || (not (has_colon statement) && takes_name names statement)) then Some NameTaken
+    else (if is_bad_label label || (has_colon statement || is_strange statement)
+    then Some UnknownWord else statement_kind names layout.size statement)
 
 -- the fault of a line, once this is laid
 unfoldable pub line_fault : LayoutSoFar → List ℕ → Option AsmKind
-line_fault laid line =
-    if not (list_all is_plain (before_comment line)) then Some BadByte else fault_behind laid (label_of line) (statement_text line)
+line_fault layout line =
+    if not (list_all is_plain (before_comment line)) then Some BadByte
+    else labelled_line_fault layout (label_of line) (statement_text line)

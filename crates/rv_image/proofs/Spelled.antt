@@ -1,4 +1,5 @@
--- Bytes without a fault are spelled as RKI1, and what is spelled so has no fault and its own fields.
+-- Bytes without a fault are spelled as RKI1, and what is spelled so has no fault and its own
+-- fields.
 use Rattle.std.proofs.Common.{◌≡◌, ℕ, ◌+◌, ◌^◌, ◌<◌, ◌≤◌, Bool, true, false, eqb, ltb, List, [], ◌∷◌, ◌++◌, length, get_or, take, drop, Option, Some, None, Err, refl, sym, ap, ◌∙◌, subst, append_assoc, arith, inl, inr}
 use Rattle.std.specs.Prelude.{not, nat_eq}
 use Rattle.std.specs.List.{starts_with}

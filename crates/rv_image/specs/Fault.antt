@@ -17,7 +17,8 @@ is_too_large loaded_len zero_len = nat_lt IMAGE_ROOM (loaded_len + zero_len)
 -- at this address a whole word of so many loaded bytes begins
 abbrev pub is_entry : ℕ → ℕ → Bool
 is_entry address loaded_len =
-    (address % WORD_SIZE == 0) && nat_le PRIVATE_START address && nat_le (address + WORD_SIZE) (PRIVATE_START + loaded_len)
+    (address % WORD_SIZE == 0) && nat_le PRIVATE_START address
+    && nat_le (address + WORD_SIZE) (PRIVATE_START + loaded_len)
 
 -- why these parts are no image, the first cause first
 abbrev pub parts_fault : ImageParts → Option ImageFault
@@ -34,6 +35,6 @@ named_cause (Err fault) = Some fault
 
 -- an answer is this value, unless memory ran out
 abbrev pub IsValueOf : {X : Type 0} → Result X ImageFault → X → Type 0
-IsValueOf (Ok found) x = found ≡ x
+IsValueOf (Ok value) x = value ≡ x
 IsValueOf (Err (Memory cause)) x = Unit {0}
 IsValueOf (Err fault) x = ⊥

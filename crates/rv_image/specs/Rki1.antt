@@ -13,7 +13,8 @@ use Rattle.rv_image.specs.Fault.{first_fault, is_too_large, is_entry}
 -- the magic, three little-endian numbers of four bytes, and the loaded bytes
 abbrev pub spelling : ImageParts → List ℕ
 spelling image =
-    MAGIC ++ to_le_bytes w32 image.entry ++ to_le_bytes w32 (length image.loaded) ++ to_le_bytes w32 image.zero
+    MAGIC ++ to_le_bytes w32 image.entry ++ to_le_bytes w32 (length image.loaded)
+    ++ to_le_bytes w32 image.zero
     ++ image.loaded
 
 -- these bytes are RKI1, and spell this image

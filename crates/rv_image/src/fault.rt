@@ -7,8 +7,8 @@ use rv_model::NoMemory;
 use std::alloc::AllocError;
 use thiserror::Error;
 
-/// Why parts or bytes are no image, in the order in which the causes are judged: where several hold, the first
-/// is answered.
+/// Why parts or bytes are no image, in the order in which the causes are judged: where several
+/// hold, the first is answered.
 #[derive(Clone, Copy, Debug, PartialEq, Eq, Error)]
 pub enum ImageFault {
     /// There are fewer bytes than the header has.

@@ -16,9 +16,9 @@ use std::marker::Model;
 /// How many bytes an image may take up.
 const ROOM: usize = IMAGE_ROOM as usize;
 
-/// What a process is started from. Its loaded bytes stand from `PRIVATE_START` on, with bytes of value 0 behind them;
-/// together they are `IMAGE_ROOM` bytes at most. The process begins at the entry, a multiple of 4 at which a whole word
-/// of the loaded bytes lies (docs/IMAGE.md).
+/// What a process is started from. Its loaded bytes stand from `PRIVATE_START` on, with bytes of
+/// value 0 behind them; together they are `IMAGE_ROOM` bytes at most. The process begins at the
+/// entry, a multiple of 4 at which a whole word of the loaded bytes lies (docs/IMAGE.md).
 #[derive(Debug, Drop)]
 pub struct Image {
     entry: u32,
@@ -47,15 +47,16 @@ fn is_too_large(loaded_len: usize, zero_len: usize) -> bool
 fn is_entry(address: u32, loaded_len: usize) -> bool
     ensures { result ≡ is_entry address loaded_len }
 {
-    address.is_multiple_of(4)
+    address.is_multiple_of(WORD_SIZE)
         && address >= PRIVATE_START
         && (address - PRIVATE_START) as usize + WORD_SIZE as usize <= loaded_len
 }
 
 impl Image {
-    /// The image with this entry, these loaded bytes and so many zero bytes. `TooLarge` where loaded and zero
-    /// bytes together are more than `IMAGE_ROOM`, and else `Entry` where the entry is not a multiple of 4, or no whole
-    /// word of the loaded bytes lies there. No other error comes, and no memory is taken.
+    /// The image with this entry, these loaded bytes and so many zero bytes. `TooLarge` where
+    /// loaded and zero bytes together are more than `IMAGE_ROOM`, and else `Entry` where the entry
+    /// is not a multiple of 4, or no whole word of the loaded bytes lies there. No other error
+    /// comes, and no memory is taken.
     pub fn of_parts(entry: u32, loaded: Vec<u8>, zero: u32) -> Result<Image, ImageFault>
         ensures same { IfOk result (λ image. image ≡ image_parts entry loaded.items zero) }
         ensures valid { IsOk result ↔ IsImage (image_parts entry loaded.items zero) }
@@ -90,7 +91,8 @@ impl Image {
         self.loaded.as_slice()
     }
 
-    /// How many bytes of value 0 stand behind the loaded ones, `IMAGE_ROOM` at most together with them.
+    /// How many bytes of value 0 stand behind the loaded ones, `IMAGE_ROOM` at most together with
+    /// them.
     pub fn zero(&self) -> u32
         ensures value { result ≡ self.now.zero }
         ensures valid { IsImage self.now }

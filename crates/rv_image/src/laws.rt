@@ -16,7 +16,8 @@ pub fn rki1_is_unambiguous()
         → IsRki1 bytes image → IsRki1 other image → bytes ≡ other }
 {}
 
-/// What `read` gives of what `write` gives: the image itself. Only where memory runs out there is none.
+/// What `read` gives of what `write` gives: the image itself. Only where memory runs out there is
+/// none.
 pub fn written_and_read(alloc: Global, image: &Image) -> Result<Image, ImageFault>
     ensures { IsValueOf result image.now }
 {

@@ -47,11 +47,11 @@ fn with_header(
 
 #[test]
 fn image(rt: HostRuntime) -> Result<(), Fail> {
-    let made = Image::of_parts(START, loaded_words(rt.alloc())?, 0)?;
-    assert_eq!(rt; write(rt.alloc(), &made)?.as_slice(), RKI1.as_slice());
-    let copied = made.copy(rt.alloc())?;
-    let again = written_and_read(rt.alloc(), &made)?;
-    for image in [read(rt.alloc(), &RKI1)?, copied, again] {
+    let first = Image::of_parts(START, loaded_words(rt.alloc())?, 0)?;
+    assert_eq!(rt; write(rt.alloc(), &first)?.as_slice(), RKI1.as_slice());
+    let second = first.copy(rt.alloc())?;
+    let again = written_and_read(rt.alloc(), &first)?;
+    for image in [read(rt.alloc(), &RKI1)?, second, again] {
         assert_eq!(rt; image.entry(), 0x0001_0000);
         assert_eq!(rt; image.loaded(), &RKI1[16..]);
         assert_eq!(rt; image.zero(), 0);
@@ -61,9 +61,9 @@ fn image(rt: HostRuntime) -> Result<(), Fail> {
 
 #[test]
 fn zero_bytes(rt: HostRuntime) -> Result<(), Fail> {
-    let made = Image::of_parts(START + 16, loaded_words(rt.alloc())?, 122_860)?;
+    let first = Image::of_parts(START + 16, loaded_words(rt.alloc())?, 122_860)?;
     let bytes = with_header(rt.alloc(), b"RKI1", START + 16, 20, 122_860)?;
-    assert_eq!(rt; write(rt.alloc(), &made)?.as_slice(), bytes.as_slice());
+    assert_eq!(rt; write(rt.alloc(), &first)?.as_slice(), bytes.as_slice());
     let image = read(rt.alloc(), &bytes)?;
     assert_eq!(rt; (image.entry(), image.zero()), (0x0001_0010, 122_860));
     Ok(())

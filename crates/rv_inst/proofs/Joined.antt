@@ -4,17 +4,17 @@ use Rattle.std.specs.Int.{w32, cast_unsigned}
 use Rattle.std.proofs.lemmas.Int.{ints}
 use Rattle.std.proofs.lemmas.Bool.Decides.{nat_tests}
 use Rattle.rv_model.specs.declared.inst.Inst.{Inst}
-use Rattle.rv_model.specs.Words.{bits_of, opcode_of, funct3_of, funct7_of, rd_of, rs1_of, rs2_of, sign_extended, i_immediate, s_immediate, b_immediate, u_immediate, j_immediate, table, dec}
+use Rattle.rv_model.specs.Words.{bits_of, opcode_of, funct3_of, funct7_of, rd_of, rs1_of, rs2_of, sign_extension, i_immediate, s_immediate, b_immediate, u_immediate, j_immediate, table, dec}
 use Rattle.rv_inst.specs.Encoding.{r_word, i_word, s_word, b_word, u_word, j_word, word_of}
 use Rattle.rv_inst.proofs.Rows.{rule}
 
-i_back : (n : ℕ) → n < 4096 → cast_unsigned w32 (sign_extended 12 n) % 4096 ≡ n
+i_back : (n : ℕ) → n < 4096 → cast_unsigned w32 (sign_extension 12 n) % 4096 ≡ n
 i_back n h = grind (arith, ints)
 
-b_back : (n : ℕ) → n < 2 ^ 13 → cast_unsigned w32 (sign_extended 13 n) % 2 ^ 13 ≡ n
+b_back : (n : ℕ) → n < 2 ^ 13 → cast_unsigned w32 (sign_extension 13 n) % 2 ^ 13 ≡ n
 b_back n h = grind (arith, ints)
 
-j_back : (n : ℕ) → n < 2 ^ 21 → cast_unsigned w32 (sign_extended 21 n) % 2 ^ 21 ≡ n
+j_back : (n : ℕ) → n < 2 ^ 21 → cast_unsigned w32 (sign_extension 21 n) % 2 ^ 21 ≡ n
 j_back n h = grind (arith, ints)
 
 u_row : (w k : ℕ) → w < 2 ^ 32 → opcode_of w == k && true ≡ true → u_word k (rd_of w) (u_immediate w) ≡ w

@@ -1,4 +1,5 @@
--- The rule of the table: what holds of the meaning of each row that a word matches holds of the word's instruction.
+-- The rule of the table: what holds of the meaning of each row that a word matches holds of the
+-- word's instruction.
 use Rattle.std.proofs.Common.{◌≡◌, ℕ, true, false, cond, List, [], ◌∷◌, Some, refl, subst}
 use Rattle.std.specs.Prelude.{find, option_map}
 use Rattle.std.specs.List.{AllByRecursion}

@@ -1,6 +1,7 @@
--- The word of an instruction: the fields that the RISC-V unprivileged specification gives it ("Base Instruction Formats",
--- "Immediate Encoding Variants", "RV32I Base Integer Instruction Set"), put together. Where the decoding table reads a word as an
--- instruction, this gives the word back (`back` in `proofs/Joined.antt`).
+-- The word of an instruction: the fields that the RISC-V unprivileged specification gives it ("Base
+-- Instruction Formats", "Immediate Encoding Variants", "RV32I Base Integer Instruction Set"), put
+-- together. Where the decoding table reads a word as an instruction, this gives the word back
+-- (`back` in `proofs/Joined.antt`).
 use Rattle.std.specs.Prelude.{ℕ, ◌+◌, ◌*◌, ◌%◌, ◌^◌, ℤ, unsigned_abs}
 use Rattle.std.specs.Int.{w32, cast_unsigned}
 use Rattle.rv_model.specs.declared.opcodes.TheConstants.{LUI, AUIPC, JAL, JALR, BRANCH, LOAD, STORE, OP_IMM, OP, ECALL_WORD, EBREAK_WORD}
@@ -34,7 +35,8 @@ i_word opcode funct3 rd rs1 imm =
 abbrev pub s_word : (opcode funct3 rs1 rs2 : ℕ) → ℤ → ℕ
 s_word opcode funct3 rs1 rs2 imm =
     let n = cast_unsigned w32 imm in
-    bits_of 5 7 n * 2 ^ 25 + rs2 * 2 ^ 20 + rs1 * 2 ^ 15 + funct3 * 2 ^ 12 + bits_of 0 5 n * 2 ^ 7 + opcode
+    bits_of 5 7 n * 2 ^ 25 + rs2 * 2 ^ 20 + rs1 * 2 ^ 15 + funct3 * 2 ^ 12 + bits_of 0 5 n * 2 ^ 7
+    + opcode
 
 -- B: bit 12 is bit 31, bits 10..5 are bits 30..25, bits 4..1 are bits 11..8, and bit 11 is bit 7
 abbrev pub b_word : (opcode funct3 rs1 rs2 : ℕ) → ℤ → ℕ
@@ -51,7 +53,8 @@ u_word opcode rd imm = imm + rd * 2 ^ 7 + opcode
 abbrev pub j_word : (opcode rd : ℕ) → ℤ → ℕ
 j_word opcode rd offset =
     let n = cast_unsigned w32 offset in
-    bits_of 20 1 n * 2 ^ 31 + bits_of 1 10 n * 2 ^ 21 + bits_of 11 1 n * 2 ^ 20 + bits_of 12 8 n * 2 ^ 12
+    bits_of 20 1 n * 2 ^ 31 + bits_of 1 10 n * 2 ^ 21 + bits_of 11 1 n * 2 ^ 20
+    + bits_of 12 8 n * 2 ^ 12
     + rd * 2 ^ 7 + opcode
 
 -- ---- instructions

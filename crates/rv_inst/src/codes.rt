@@ -1,4 +1,5 @@
-//! The codes that tell which instruction a word is (RISC-V unprivileged specification, "Base Instruction Formats").
+//! The codes that tell which instruction a word is (RISC-V unprivileged specification, "Base
+//! Instruction Formats").
 ghost use Rattle.std.specs.Prelude.{◌<◌, ◌^◌};
 
 /// An opcode: bits 6..0 of a word.

@@ -14,10 +14,11 @@ use rv_model::opcodes::{
 };
 use rv_model::{BranchOp, ImmOp, Inst, LoadOp, RegOp, StoreOp};
 
-/// The instruction that a word is, by the standard's table of RV32I (RISC-V unprivileged specification, "RV32I Base
-/// Integer Instruction Set" and "RV32/64G Instruction Set Listings"). `None` comes exactly for a word that matches no row
-/// of the table, as each word of another extension. What is decoded is valid. A fence is one whatever its other fields
-/// are, and ECALL and EBREAK are one word each.
+/// The instruction that a word is, by the standard's table of RV32I (RISC-V unprivileged
+/// specification, "RV32I Base Integer Instruction Set" and "RV32/64G Instruction Set Listings").
+/// `None` comes exactly for a word that matches no row of the table, as each word of another
+/// extension. What is decoded is valid. A fence is one whatever its other fields are, and ECALL and
+/// EBREAK are one word each.
 #[tactic(auto, unfolding(rv_model::specs::Words::dec, rv_model::specs::Words::table))]
 pub fn decode(word: u32) -> Option<Inst>
     ensures listed { result ≡ dec word }

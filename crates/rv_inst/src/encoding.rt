@@ -11,8 +11,8 @@ use rv_model::opcodes::{
 };
 use rv_model::{BranchOp, ImmOp, Inst, LoadOp, RegOp, Register, StoreOp};
 
-/// The word of a valid instruction: the only one that is decoded to the instruction (RISC-V unprivileged specification,
-/// "Base Instruction Formats" and "RV32/64G Instruction Set Listings").
+/// The word of a valid instruction: the only one that is decoded to the instruction (RISC-V
+/// unprivileged specification, "Base Instruction Formats" and "RV32/64G Instruction Set Listings").
 #[tactic(auto, using(crate::proofs::Joined::only))]
 pub fn encode(inst: &Inst) -> u32
     requires { IsValid inst.now }

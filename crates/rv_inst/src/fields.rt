@@ -1,5 +1,5 @@
-//! The fields of an instruction word, and the immediates that lie in it (RISC-V unprivileged specification, "Base
-//! Instruction Formats" and "Immediate Encoding Variants").
+//! The fields of an instruction word, and the immediates that lie in it (RISC-V unprivileged
+//! specification, "Base Instruction Formats" and "Immediate Encoding Variants").
 ghost use Rattle.std.specs.Prelude.{◌≡◌, ◌<◌};
 ghost use Rattle.rv_model.specs.Words.{bits_of, opcode_of, rd_of, funct3_of, rs1_of, rs2_of, funct7_of, i_immediate, s_immediate, b_immediate, u_immediate, j_immediate};
 

@@ -10,7 +10,8 @@ pub fn table_is_unambiguous()
     ensures { (word : ℕ) → length (filter (has_fixed_fields word) table) ≤ 1 }
 {}
 
-/// A word that matches a row is that row's instruction, and a word that matches none is no instruction.
+/// A word that matches a row is that row's instruction, and a word that matches none is no
+/// instruction.
 #[tactic(auto, using(crate::proofs::Unambiguous::decided))]
 pub fn table_decides()
     ensures matched { (word : ℕ)

@@ -1,5 +1,5 @@
-//! Words from their fields (RISC-V unprivileged specification, "Base Instruction Formats" and "Immediate Encoding
-//! Variants").
+//! Words from their fields (RISC-V unprivileged specification, "Base Instruction Formats" and
+//! "Immediate Encoding Variants").
 ghost use Rattle.std.specs.Prelude.{◌≡◌};
 ghost use Rattle.rv_model.specs.Words.{opcode_of, funct3_of, funct7_of, rd_of, rs1_of, rs2_of, i_immediate, s_immediate, b_immediate, u_immediate, j_immediate};
 ghost use Rattle.rv_inst.specs.Valid.{IsUpper, IsTwelveBits, IsBranchOffset, IsJumpOffset};

@@ -1,5 +1,6 @@
-//! The instruction words of RV32I: decoding and encoding, proved to be inverse to one another. What a word means is the
-//! table of `specs/Words.antt`, one row for each instruction, and the code tests bits.
+//! The instruction words of RV32I: decoding and encoding, proved to be inverse to one another. What
+//! a word means is the table of `specs/Words.antt`, one row for each instruction, and the code
+//! tests bits.
 #![tactic(auto)]
 
 mod codes;

@@ -76,8 +76,8 @@ macro_rules! op {
     };
 }
 
-/// Each instruction of RV32I, with the ends of its immediate: the words follow from the standard's pictures of the formats
-/// and its listings of opcodes.
+/// Each instruction of RV32I, with the ends of its immediate: the words follow from the standard's
+/// pictures of the formats and its listings of opcodes.
 const ROWS: [(u32, Inst); 53] = [
     (0x0000_0037, Inst::Lui { rd: 0, imm: 0 }),
     (

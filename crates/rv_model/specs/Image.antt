@@ -2,8 +2,8 @@
 use Rattle.std.specs.Prelude.{◌≡◌, ℕ, ◌+◌, ◌%◌, ◌≤◌, List, length}
 use Rattle.rv_model.specs.declared.limits.TheConstants.{PRIVATE_START, IMAGE_ROOM, WORD_SIZE}
 
--- The bytes `loaded` stand at the start of private memory, `zero` bytes of value 0 behind them, and `entry` is
--- the address of the first instruction.
+-- The bytes `loaded` stand at the start of private memory, `zero` bytes of value 0 behind them, and
+-- `entry` is the address of the first instruction.
 pub record ImageParts : Type 0 where
   pub entry : ℕ
   pub loaded : List ℕ

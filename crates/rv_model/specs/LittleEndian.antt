@@ -13,4 +13,5 @@ number_at bytes offset size = bytes_number (take size (drop offset bytes))
 
 -- the bytes once the lowest `size` bytes of n are written from `offset` on
 unfoldable pub with_number_at : List ℕ → ℕ → ℕ → ℕ → List ℕ
-with_number_at bytes offset size n = take offset bytes ++ (bytes_low_first 0 size n ++ drop (offset + size) bytes)
+with_number_at bytes offset size n =
+    take offset bytes ++ (bytes_low_first 0 size n ++ drop (offset + size) bytes)

@@ -1,5 +1,5 @@
--- The private memory of a process, the addresses from `PRIVATE_START` up to `PRIVATE_END`. A process that used no window has
--- no other memory.
+-- The private memory of a process, the addresses from `PRIVATE_START` up to `PRIVATE_END`. A
+-- process that used no window has no other memory.
 use Rattle.std.specs.Prelude.{ℕ, ◌-◌, ◌%◌, Bool, ◌&&◌, nat_le, nat_lt, ◌==◌, if◌then◌else◌, List, ◌++◌, length, replicate, Result, Ok, Err}
 use Rattle.rv_model.specs.declared.stop.Stop.{Stop}
 use Rattle.rv_model.specs.declared.stop.Stop.TheVariants.{Fetch, Misaligned, Unmapped}
@@ -18,13 +18,16 @@ is_private a = nat_le PRIVATE_START a && nat_lt a PRIVATE_END
 -- instructions are fetched from private memory alone, at a multiple of 4
 abbrev pub word_at_pc : List ℕ → ℕ → Result ℕ Stop
 word_at_pc bytes pc =
-    if pc % WORD_SIZE == 0 && is_private pc then Ok (number_at bytes (pc - PRIVATE_START) WORD_SIZE) else Err (Fetch pc)
+    if pc % WORD_SIZE == 0 && is_private pc then Ok (number_at bytes (pc - PRIVATE_START) WORD_SIZE)
+    else Err (Fetch pc)
 
--- an access of `size` bytes at an address, which is made by the offset in private memory: it must be at a multiple of
--- the size, and then be private, since no window was used
+-- an access of `size` bytes at an address, which is made by the offset in private memory: it must
+-- be at a multiple of the size, and then be private, since no window was used
 abbrev pub checked_access : {X : Type 0} → ℕ → ℕ → (ℕ → X) → Result X Stop
-checked_access a size made =
-    if a % size == 0 then (if is_private a then Ok (made (a - PRIVATE_START)) else Err (Unmapped a)) else Err (Misaligned a)
+checked_access a size access_at =
+    if a % size == 0
+    then (if is_private a then Ok (access_at (a - PRIVATE_START)) else Err (Unmapped a))
+    else Err (Misaligned a)
 
 -- what private memory answers
 abbrev pub private_access : Access (List ℕ)
@@ -35,5 +38,5 @@ private_access = record {
 }
 
 -- private memory once these bytes are loaded at its start: all others are 0
-abbrev pub with_loaded : List ℕ → List ℕ
-with_loaded loaded = loaded ++ replicate (private_size - length loaded) 0
+abbrev pub with_loaded_bytes : List ℕ → List ℕ
+with_loaded_bytes loaded = loaded ++ replicate (private_size - length loaded) 0

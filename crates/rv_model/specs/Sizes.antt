@@ -11,7 +11,8 @@ same m n = hlevel props
 
 -- a number is no two that differ
 apart : {P : Type 0} (k l : ℕ) {n : ℕ} → (k == l) ≡ false → n ≡ k → n ≡ l → P
-apart k l differ at_k at_l = absurd (false≢true (sym differ ∙ ap (λ m. m == l) (sym at_k ∙ at_l) ∙ itself l))
+apart k l differ at_k at_l =
+    absurd (false≢true (sym differ ∙ ap (λ m. m == l) (sym at_k ∙ at_l) ∙ itself l))
   where
     itself : (m : ℕ) → (m == m) ≡ true
     itself m = (unsigned_Decides m m).1 refl

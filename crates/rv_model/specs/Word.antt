@@ -20,12 +20,12 @@ one_if true = 1
 one_if false = 0
 
 -- the shifts: the amount is the low five bits of n
-abbrev pub shifted_left : ℕ → ℕ → ℕ
-shifted_left a n = a * 2 ^ (n % 32) % 2 ^ 32
+abbrev pub left_shift : ℕ → ℕ → ℕ
+left_shift a n = a * 2 ^ (n % 32) % 2 ^ 32
 
-abbrev pub shifted_right : ℕ → ℕ → ℕ
-shifted_right a n = a / 2 ^ (n % 32)
+abbrev pub right_shift : ℕ → ℕ → ℕ
+right_shift a n = a / 2 ^ (n % 32)
 
 -- the sign bit moves in from the left
-abbrev pub shifted_right_signed : ℕ → ℕ → ℕ
-shifted_right_signed a n = cast_unsigned w32 (int_shr (cast_signed w32 a) (n % 32))
+abbrev pub signed_right_shift : ℕ → ℕ → ℕ
+signed_right_shift a n = cast_unsigned w32 (int_shr (cast_signed w32 a) (n % 32))

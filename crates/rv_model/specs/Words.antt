@@ -1,7 +1,8 @@
--- The instruction words of RV32I, as the RISC-V unprivileged specification lists them: the fields of a word ("Base
--- Instruction Formats"), its immediates ("Immediate Encoding Variants"), and a row for each instruction ("RV32I Base
--- Integer Instruction Set", "RV32/64G Instruction Set Listings"). Words are below 2 ^ 32. That the other fields of a fence
--- don't matter, and that every other word is no instruction, is this project's own.
+-- The instruction words of RV32I, as the RISC-V unprivileged specification lists them: the fields
+-- of a word ("Base Instruction Formats"), its immediates ("Immediate Encoding Variants"), and a row
+-- for each instruction ("RV32I Base Integer Instruction Set", "RV32/64G Instruction Set Listings").
+-- Words are below 2 ^ 32. That the other fields of a fence don't matter, and that every other word
+-- is no instruction, is this project's own.
 use Rattle.std.specs.Prelude.{ℕ, ◌+◌, ◌-◌, ◌*◌, ◌/◌, ◌%◌, ◌^◌, Bool, ◌==◌, nat_lt, if◌then◌else◌, ℤ, pos, ◌-ℤ◌, List, [], ◌∷◌, find, Option, option_map}
 use Rattle.std.specs.List.{list_all}
 use Rattle.rv_model.specs.declared.opcodes.TheConstants.{LUI, AUIPC, JAL, JALR, BRANCH, LOAD, STORE, OP_IMM, OP, MISC_MEM, SYSTEM, ECALL_WORD, EBREAK_WORD}
@@ -50,20 +51,22 @@ rest_of = bits_of 7 25
 -- ---- immediates
 
 -- the number of which n is the two's complement in `width` bits: its top bit counts as negative
-abbrev pub sign_extended : (width n : ℕ) → ℤ
-sign_extended width n = if nat_lt n (2 ^ (width - 1)) then pos n else pos n -ℤ pos (2 ^ width)
+abbrev pub sign_extension : (width n : ℕ) → ℤ
+sign_extension width n = if nat_lt n (2 ^ (width - 1)) then pos n else pos n -ℤ pos (2 ^ width)
 
 -- I: bits 31..20 are bits 11..0
 abbrev pub i_immediate : ℕ → ℤ
-i_immediate word = sign_extended 12 (bits_of 20 12 word)
+i_immediate word = sign_extension 12 (bits_of 20 12 word)
 
 -- S: bits 31..25 are bits 11..5, and bits 11..7 are bits 4..0
 abbrev pub s_immediate : ℕ → ℤ
-s_immediate word = sign_extended 12 (bits_of 25 7 word * 2 ^ 5 + bits_of 7 5 word)
+s_immediate word = sign_extension 12 (bits_of 25 7 word * 2 ^ 5 + bits_of 7 5 word)
 
 -- B: bit 31 is bit 12, bit 7 is bit 11, bits 30..25 are bits 10..5, and bits 11..8 are bits 4..1
 abbrev pub b_immediate : ℕ → ℤ
-b_immediate word = sign_extended 13 (bits_of 31 1 word * 2 ^ 12 + bits_of 7 1 word * 2 ^ 11 + bits_of 25 6 word * 2 ^ 5 + bits_of 8 4 word * 2)
+b_immediate word = sign_extension 13
+    (bits_of 31 1 word * 2 ^ 12 + bits_of 7 1 word * 2 ^ 11 + bits_of 25 6 word * 2 ^ 5
+    + bits_of 8 4 word * 2)
 
 -- U: bits 31..12 stay where they are
 abbrev pub u_immediate : ℕ → ℕ
@@ -71,11 +74,14 @@ u_immediate word = bits_of 12 20 word * 2 ^ 12
 
 -- J: bit 31 is bit 20, bits 19..12 stay, bit 20 is bit 11, and bits 30..21 are bits 10..1
 abbrev pub j_immediate : ℕ → ℤ
-j_immediate word = sign_extended 21 (bits_of 31 1 word * 2 ^ 20 + bits_of 12 8 word * 2 ^ 12 + bits_of 20 1 word * 2 ^ 11 + bits_of 21 10 word * 2)
+j_immediate word = sign_extension 21
+    (bits_of 31 1 word * 2 ^ 20 + bits_of 12 8 word * 2 ^ 12 + bits_of 20 1 word * 2 ^ 11
+    + bits_of 21 10 word * 2)
 
 -- ---- rows
 
--- the `width` bits from bit `low` up have this value: a part of a row's mask, with the match under it
+-- the `width` bits from bit `low` up have this value: a part of a row's mask, with the match under
+-- it
 pub record FixedField : Type 0 where
   pub low : ℕ
   pub width : ℕ
@@ -100,7 +106,8 @@ pub record DecodingRow : Type 0 where
 
 -- the word has the row's fixed fields
 abbrev pub has_fixed_fields : ℕ → DecodingRow → Bool
-has_fixed_fields word row = list_all (λ field. bits_of field.low field.width word == field.value) row.fixed_fields
+has_fixed_fields word row =
+    list_all (λ field. bits_of field.low field.width word == field.value) row.fixed_fields
 
 -- ---- the table
 
@@ -116,13 +123,16 @@ branch_row funct3 op =
     minor_row BRANCH funct3 (λ word. Branch op (rs1_of word) (rs2_of word) (b_immediate word))
 
 abbrev pub load_row : ℕ → LoadOp → DecodingRow
-load_row funct3 op = minor_row LOAD funct3 (λ word. Load op (rd_of word) (rs1_of word) (i_immediate word))
+load_row funct3 op =
+    minor_row LOAD funct3 (λ word. Load op (rd_of word) (rs1_of word) (i_immediate word))
 
 abbrev pub store_row : ℕ → StoreOp → DecodingRow
-store_row funct3 op = minor_row STORE funct3 (λ word. Store op (rs1_of word) (rs2_of word) (s_immediate word))
+store_row funct3 op =
+    minor_row STORE funct3 (λ word. Store op (rs1_of word) (rs2_of word) (s_immediate word))
 
 abbrev pub op_imm_row : ℕ → ImmOp → DecodingRow
-op_imm_row funct3 op = minor_row OP_IMM funct3 (λ word. OpImm op (rd_of word) (rs1_of word) (i_immediate word))
+op_imm_row funct3 op =
+    minor_row OP_IMM funct3 (λ word. OpImm op (rd_of word) (rs1_of word) (i_immediate word))
 
 -- a shift by an immediate has the shift amount in the field of rs2
 abbrev pub shift_row : ℕ → ℕ → ImmOp → DecodingRow
@@ -140,9 +150,18 @@ op_row funct3 funct7 op = record {
 -- the row of each instruction of RV32I
 unfoldable pub table : List DecodingRow
 table =
-    record { fixed_fields = opcode_field LUI ∷ []; meaning = λ word. Lui (rd_of word) (u_immediate word) }
-    ∷ record { fixed_fields = opcode_field AUIPC ∷ []; meaning = λ word. Auipc (rd_of word) (u_immediate word) }
-    ∷ record { fixed_fields = opcode_field JAL ∷ []; meaning = λ word. Jal (rd_of word) (j_immediate word) }
+    record {
+      fixed_fields = opcode_field LUI ∷ [];
+      meaning = λ word. Lui (rd_of word) (u_immediate word);
+    }
+    ∷ record {
+      fixed_fields = opcode_field AUIPC ∷ [];
+      meaning = λ word. Auipc (rd_of word) (u_immediate word);
+    }
+    ∷ record {
+      fixed_fields = opcode_field JAL ∷ [];
+      meaning = λ word. Jal (rd_of word) (j_immediate word);
+    }
     ∷ minor_row JALR 0b000 (λ word. Jalr (rd_of word) (rs1_of word) (i_immediate word))
     ∷ branch_row 0b000 Beq
     ∷ branch_row 0b001 Bne
@@ -178,10 +197,17 @@ table =
     ∷ op_row 0b000 0b0100000 Sub
     ∷ op_row 0b101 0b0100000 Sra
     ∷ minor_row MISC_MEM 0b000 (λ word. Fence word)
-    ∷ record { fixed_fields = opcode_field SYSTEM ∷ rest_field (rest_of ECALL_WORD) ∷ []; meaning = λ word. Ecall }
-    ∷ record { fixed_fields = opcode_field SYSTEM ∷ rest_field (rest_of EBREAK_WORD) ∷ []; meaning = λ word. Ebreak }
+    ∷ record {
+      fixed_fields = opcode_field SYSTEM ∷ rest_field (rest_of ECALL_WORD) ∷ [];
+      meaning = λ word. Ecall;
+    }
+    ∷ record {
+      fixed_fields = opcode_field SYSTEM ∷ rest_field (rest_of EBREAK_WORD) ∷ [];
+      meaning = λ word. Ebreak;
+    }
     ∷ []
 
--- the instruction that a word is: that of the row that it matches, of which there is at most one, and none where it matches no row
+-- the instruction that a word is: that of the row that it matches, of which there is at most one,
+-- and none where it matches no row
 unfoldable pub dec : ℕ → Option Inst
 dec word = option_map (λ row. row.meaning word) (find (has_fixed_fields word) table)

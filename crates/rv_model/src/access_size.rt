@@ -1,9 +1,12 @@
 ghost use Rattle.std.specs.Prelude.{◌≡◌};
+ghost use Rattle.rv_model.specs.declared.limits.TheConstants.{WORD_SIZE};
 ghost use Rattle.rv_model.specs.Exec.{IsAccessSize};
 ghost use Rattle.rv_model.specs.Sizes.{IsAccessSize-prop};
 
-/// How many bytes a load or a store moves: 1, 2 or 4 (RISC-V unprivileged specification, "Load and Store
-/// Instructions").
+use crate::limits::WORD_SIZE;
+
+/// How many bytes a load or a store moves: 1, 2 or 4 (RISC-V unprivileged specification, "Load and
+/// Store Instructions").
 #[derive(Clone, Copy, Debug, PartialEq, Eq)]
 pub struct AccessSize {
     pub bytes: u32,
@@ -27,8 +30,8 @@ impl AccessSize {
 
     /// A word.
     pub fn word() -> AccessSize
-        ensures { result.bytes ≡ 4 }
+        ensures { result.bytes ≡ WORD_SIZE }
     {
-        AccessSize { bytes: 4 }
+        AccessSize { bytes: WORD_SIZE }
     }
 }

@@ -1,14 +1,15 @@
-/// An instruction of RV32I, with its operands (RISC-V unprivileged specification, "RV32I Base Integer
-/// Instruction Set"). Registers are 0 to 31. Immediates are the values that the processor adds or compares, so
-/// signed where the standard extends the sign; the ranges of each are those that the formats can encode.
+/// An instruction of RV32I, with its operands (RISC-V unprivileged specification, "RV32I Base
+/// Integer Instruction Set"). Registers are 0 to 31. Immediates are the values that the processor
+/// adds or compares, so signed where the standard extends the sign; the ranges of each are those
+/// that the formats can encode.
 #[derive(Clone, Copy, Debug, PartialEq, Eq)]
 pub enum Inst {
-    /// `imm` is a multiple of 4,096.
+    /// `imm` is a multiple of `UPPER_UNIT`.
     Lui {
         rd: u8,
         imm: u32,
     },
-    /// `imm` is a multiple of 4,096.
+    /// `imm` is a multiple of `UPPER_UNIT`.
     Auipc {
         rd: u8,
         imm: u32,
@@ -45,7 +46,8 @@ pub enum Inst {
         rs2: u8,
         imm: i32,
     },
-    /// `imm` is from `LEAST_IMMEDIATE` to `GREATEST_IMMEDIATE`, and for the three shifts from 0 to `GREATEST_SHIFT`.
+    /// `imm` is from `LEAST_IMMEDIATE` to `GREATEST_IMMEDIATE`, and for the three shifts from 0 to
+    /// `GREATEST_SHIFT`.
     OpImm {
         op: ImmOp,
         rd: u8,

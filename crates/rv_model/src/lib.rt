@@ -1,5 +1,6 @@
-//! The plain types of the instruction set that all crates speak of: instructions, why a process stops, the sizes of a
-//! process's memory, and the one answer where memory runs out. It knows no rule; the rules are definitions in `specs/`.
+//! The plain types of the instruction set that all crates speak of: instructions, why a process
+//! stops, the sizes of a process's memory, and the one answer where memory runs out. It knows no
+//! rule; the rules are definitions in `specs/`.
 #![tactic(auto)]
 
 mod access_size;

@@ -7,7 +7,8 @@ pub const PRIVATE_SIZE: u32 = 131_072;
 /// The first address behind private memory. The stack pointer of a process starts with it.
 pub const PRIVATE_END: u32 = 0x0003_0000;
 
-/// How many bytes an image may take up: private memory without its last 8,192 bytes, which are left to the stack.
+/// How many bytes an image may take up: private memory without its last 8,192 bytes, which are left
+/// to the stack.
 pub const IMAGE_ROOM: u32 = 122_880;
 
 const _: () = prove!(PRIVATE_START + PRIVATE_SIZE == PRIVATE_END);
@@ -26,8 +27,8 @@ pub const REGISTER_COUNT: usize = 32;
 /// The register of the stack pointer (RISC-V ABIs Specification, "Integer Register Convention").
 pub const SP: u8 = 2;
 
-/// The register of a call's first argument and of its answer; those of further arguments follow (RISC-V ABIs
-/// Specification, "Integer Register Convention").
+/// The register of a call's first argument and of its answer; those of further arguments follow
+/// (RISC-V ABIs Specification, "Integer Register Convention").
 pub const A0: u8 = 10;
 
 /// A jump goes less than so many bytes forward, and at most so many backward.

@@ -1,5 +1,5 @@
-//! The opcodes of RV32I by the names that the standard gives them (RISC-V unprivileged specification, "RV32/64G
-//! Instruction Set Listings").
+//! The opcodes of RV32I by the names that the standard gives them (RISC-V unprivileged
+//! specification, "RV32/64G Instruction Set Listings").
 
 pub const LUI: u32 = 0b011_0111;
 

@@ -3,7 +3,8 @@ ghost use Rattle.rv_model.specs.declared.limits.TheConstants.{A0, REGISTER_COUNT
 
 use crate::{A0, SP};
 
-/// A register, by its number: 0 to 31 (RISC-V unprivileged specification, "Programmers' Model for Base Integer ISA").
+/// A register, by its number: 0 to 31 (RISC-V unprivileged specification, "Programmers' Model for
+/// Base Integer ISA").
 #[derive(Clone, Copy, Debug, PartialEq, Eq)]
 pub struct Register {
     pub number: u8,

@@ -13,10 +13,10 @@ use Rattle.rv_model.specs.declared.limits.TheConstants.{PRIVATE_START, PRIVATE_S
 use Rattle.rv_model.specs.declared.stop.Stop.{Stop}
 use Rattle.rv_model.specs.declared.stop.Stop.TheVariants.{Illegal, Target, Misaligned, Unmapped}
 use Rattle.rv_model.specs.LittleEndian.{with_number_at}
-use Rattle.rv_model.specs.Exec.{◌>>=◌, IsAccessSize, exec, effect_of, jump_outcome, is_taken, reg, next_pc, offset_by, store_size, next_state, stop_state}
+use Rattle.rv_model.specs.Exec.{◌>>=◌, IsAccessSize, exec, effect_of, jump_outcome, is_taken, register_value, next_pc, offset_by, store_size, next_state, stop_state}
 use Rattle.rv_model.specs.Private.{private_access, private_size, is_private}
 use Rattle.rv_model.specs.Words.{dec}
-use Rattle.rv_step.specs.Changed.{HasChangedAtMost, memory_left}
+use Rattle.rv_step.specs.MemoryChange.{HasChangedAtMost, memory_left}
 use Rattle.rv_model.proofs.PrivateSize.{private_size_lem}
 
 -- nothing changed
@@ -97,19 +97,19 @@ branch_by : (bytes x : List ℕ) (pc target next : ℕ) (taken : Bool) → HasCh
 branch_by bytes x pc target next true = jump_by bytes x pc target (target % 4 == 0)
 branch_by bytes x pc target next false = stays bytes
 
-load_by : (bytes : List ℕ) (pc : ℕ) (regs : ℕ → List ℕ) (loaded : Result ℕ Stop) → HasChangedAtMost 4 bytes (memory_left bytes (loaded >>= λ n. next_state (regs n) pc bytes))
-load_by bytes pc regs (Ok n) = stays bytes
-load_by bytes pc regs (Err cause) = stays bytes
+load_by : (bytes : List ℕ) (pc : ℕ) (registers : ℕ → List ℕ) (loaded : Result ℕ Stop) → HasChangedAtMost 4 bytes (memory_left bytes (loaded >>= λ n. next_state (registers n) pc bytes))
+load_by bytes pc registers (Ok n) = stays bytes
+load_by bytes pc registers (Err cause) = stays bytes
 
 performed_changes : (inst : Inst) (x bytes : List ℕ) (pc : ℕ) → length bytes ≡ private_size → HasChangedAtMost 4 bytes (memory_left bytes (effect_of private_access inst x pc bytes))
 unfolding effect_of
 performed_changes (Lui rd imm) x bytes pc len = stays bytes
 performed_changes (Auipc rd imm) x bytes pc len = stays bytes
 performed_changes (Jal rd offset) x bytes pc len = jump_by bytes _ pc (offset_by pc offset) (offset_by pc offset % 4 == 0)
-performed_changes (Jalr rd rs1 imm) x bytes pc len = jump_by bytes _ pc _ (offset_by (reg x rs1) imm / 2 * 2 % 4 == 0)
-performed_changes (Branch op rs1 rs2 offset) x bytes pc len = branch_by bytes x pc (offset_by pc offset) (next_pc pc) (is_taken op (reg x rs1) (reg x rs2))
+performed_changes (Jalr rd rs1 imm) x bytes pc len = jump_by bytes _ pc _ (offset_by (register_value x rs1) imm / 2 * 2 % 4 == 0)
+performed_changes (Branch op rs1 rs2 offset) x bytes pc len = branch_by bytes x pc (offset_by pc offset) (next_pc pc) (is_taken op (register_value x rs1) (register_value x rs2))
 performed_changes (Load op rd rs1 imm) x bytes pc len = load_by bytes (next_pc pc) _ _
-performed_changes (Store op rs1 rs2 imm) x bytes pc len = store_changes bytes x (offset_by (reg x rs1) imm) (next_pc pc) (store_size op) _ (sized op) len
+performed_changes (Store op rs1 rs2 imm) x bytes pc len = store_changes bytes x (offset_by (register_value x rs1) imm) (next_pc pc) (store_size op) _ (sized op) len
 performed_changes (OpImm op rd rs1 imm) x bytes pc len = stays bytes
 performed_changes (Op op rd rs1 rs2) x bytes pc len = stays bytes
 performed_changes (Fence word) x bytes pc len = stays bytes

@@ -1,2 +1,2 @@
-pub mod Changed
-pub mod Stepped
+pub mod MemoryChange
+pub mod EventOutcome

@@ -1,7 +1,7 @@
 //! What instructions compute from the values of registers.
 ghost use Rattle.std.specs.Prelude.{◌≡◌, ◌^◌, ◌<◌};
-ghost use Rattle.rv_model.specs.Exec.{is_taken, imm_result, reg_result, loaded_number, load_size};
-ghost use Rattle.rv_model.specs.Word.{shifted_right_signed};
+ghost use Rattle.rv_model.specs.Exec.{is_taken, immediate_result, register_result, loaded_number, load_size};
+ghost use Rattle.rv_model.specs.Word.{signed_right_shift};
 
 use rv_model::{BranchOp, ImmOp, LoadOp, RegOp};
 
@@ -20,8 +20,8 @@ pub(crate) fn is_taken(op: BranchOp, a: u32, b: u32) -> bool
 }
 
 /// The result of an operation on a register and an immediate.
-pub(crate) fn imm_result(op: ImmOp, a: u32, imm: u32) -> u32
-    ensures { result ≡ imm_result op a imm }
+pub(crate) fn immediate_result(op: ImmOp, a: u32, imm: u32) -> u32
+    ensures { result ≡ immediate_result op a imm }
 {
     match op {
         ImmOp::Addi => a.wrapping_add(imm),
@@ -37,8 +37,8 @@ pub(crate) fn imm_result(op: ImmOp, a: u32, imm: u32) -> u32
 }
 
 /// The result of an operation on two registers.
-pub(crate) fn reg_result(op: RegOp, a: u32, b: u32) -> u32
-    ensures { result ≡ reg_result op a b }
+pub(crate) fn register_result(op: RegOp, a: u32, b: u32) -> u32
+    ensures { result ≡ register_result op a b }
 {
     match op {
         RegOp::Add => a.wrapping_add(b),
@@ -55,7 +55,7 @@ pub(crate) fn reg_result(op: RegOp, a: u32, b: u32) -> u32
 }
 
 fn shifted_right_signed(a: u32, amount: u32) -> u32
-    ensures { result ≡ shifted_right_signed a amount }
+    ensures { result ≡ signed_right_shift a amount }
 {
     (a.cast_signed() >> (amount % 32)).cast_unsigned()
 }

@@ -7,12 +7,12 @@ mod execute;
 mod laws;
 mod memory;
 mod private_memory;
-mod regs;
+mod registers;
 mod stepping;
 
 pub use event::Event;
 pub use laws::step_changes_four_bytes;
 pub use memory::Memory;
 pub use private_memory::PrivateMemory;
-pub use regs::Regs;
+pub use registers::Registers;
 pub use stepping::step;

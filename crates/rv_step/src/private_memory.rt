@@ -1,6 +1,6 @@
 ghost use Rattle.std.specs.Prelude.{◌≡◌, ◌≤◌, ◌+◌, ◌-◌, ◌*◌, ◌/◌, ◌%◌, ◌++◌, ◌==◌, ◌&&◌, ℕ, [], IfOk, IfSome, length, drop, replicate, Some, None, if◌then◌else◌};
 ghost use Rattle.rv_model.specs.declared.limits.TheConstants.{PRIVATE_START, PRIVATE_SIZE, IMAGE_ROOM};
-ghost use Rattle.rv_model.specs.Private.{private_size, is_private, checked_access, with_loaded};
+ghost use Rattle.rv_model.specs.Private.{private_size, is_private, checked_access, with_loaded_bytes};
 
 use crate::Memory;
 use rv_model::{
@@ -12,10 +12,10 @@ use std::marker::Model;
 /// The bits of an offset that are 0 within the memory.
 const OUTSIDE: u32 = !(PRIVATE_SIZE - 1);
 
-/// The private memory of a process that used no window: `PRIVATE_SIZE` bytes from `PRIVATE_START` on.
-/// A load or store whose address isn't a multiple of its size is refused as `Misaligned`, and any other one outside these
-/// addresses as `Unmapped`. A fetch outside them, or not at a multiple of 4, is refused as `Fetch`. Contracts see the
-/// memory as the list of its bytes.
+/// The private memory of a process that used no window: `PRIVATE_SIZE` bytes from `PRIVATE_START`
+/// on. A load or store whose address isn't a multiple of its size is refused as `Misaligned`, and
+/// any other one outside these addresses as `Unmapped`. A fetch outside them, or not at a multiple
+/// of 4, is refused as `Fetch`. Contracts see the memory as the list of its bytes.
 #[derive(Drop)]
 pub struct PrivateMemory {
     bytes: Vec<u8>,
@@ -42,11 +42,12 @@ impl PrivateMemory {
         Ok(PrivateMemory { bytes })
     }
 
-    /// Makes the first bytes those of `loaded`, which are `IMAGE_ROOM` at most, and all others 0. Each byte is written once.
+    /// Makes the first bytes those of `loaded`, which are `IMAGE_ROOM` at most, and all others 0.
+    /// Each byte is written once.
     #[tactic(auto, unfolding(rv_model::specs::Private::private_size))]
     pub fn load_image(&mut self, loaded: &[u8])
         requires { length loaded.now ≤ IMAGE_ROOM }
-        ensures { self.new ≡ with_loaded loaded.now }
+        ensures { self.new ≡ with_loaded_bytes loaded.now }
     {
         overwrite(self.bytes.as_mut_slice(), loaded);
     }
@@ -54,9 +55,9 @@ impl PrivateMemory {
     /// The same, where the memory holds zeros alone: only the bytes of `loaded` are written.
     #[tactic(auto, using(crate::proofs::Zeros::loaded_into_zeros))]
     pub fn load_into_zeros(&mut self, loaded: &[u8])
-        requires zeros { self.old ≡ with_loaded [] }
+        requires zeros { self.old ≡ with_loaded_bytes [] }
         requires room { length loaded.now ≤ IMAGE_ROOM }
-        ensures { self.new ≡ with_loaded loaded.now }
+        ensures { self.new ≡ with_loaded_bytes loaded.now }
     {
         overwrite_front(self.bytes.as_mut_slice(), loaded);
     }
@@ -118,28 +119,29 @@ impl Memory for PrivateMemory {
         }
     }
 
-    fn load(&self, addr: u32, size: AccessSize) -> Result<u32, Stop> {
-        let from = place(addr, size)?;
-        Ok(number_in(self.bytes.as_slice(), from, size))
+    fn load(&self, address: u32, size: AccessSize) -> Result<u32, Stop> {
+        let offset = place(address, size)?;
+        Ok(number_in(self.bytes.as_slice(), offset, size))
     }
 
-    fn store(&mut self, addr: u32, size: AccessSize, value: u32) -> Result<(), Stop> {
-        let offset = place(addr, size)?;
+    fn store(&mut self, address: u32, size: AccessSize, value: u32) -> Result<(), Stop> {
+        let offset = place(address, size)?;
         put_number(self.bytes.as_mut_slice(), offset, size, value);
         Ok(())
     }
 }
 
-/// The offset of a private address that is a multiple of `size`, and None for another address. One comparison tells.
+/// The offset of a private address that is a multiple of `size`, and None for another address. One
+/// comparison tells.
 #[tactic(auto, using(crate::proofs::Places::place_lemmas))]
 #[inline]
-fn offset_of(addr: u32, size: AccessSize) -> Option<usize>
+fn offset_of(address: u32, size: AccessSize) -> Option<usize>
     ensures value { result
-        ≡ (if addr % size.bytes == 0 && is_private addr
-        then Some (addr - PRIVATE_START) else None) }
+        ≡ (if address % size.bytes == 0 && is_private address
+        then Some (address - PRIVATE_START) else None) }
     ensures within { IfSome result (λ offset. offset + size.bytes ≤ PRIVATE_SIZE) }
 {
-    let offset = addr.wrapping_sub(PRIVATE_START);
+    let offset = address.wrapping_sub(PRIVATE_START);
     if fault_bits(offset, size) == 0 {
         Some(offset as usize)
     } else {
@@ -147,8 +149,8 @@ fn offset_of(addr: u32, size: AccessSize) -> Option<usize>
     }
 }
 
-/// The bits of an offset that keep an access of `size` bytes from it: those that lead out of the memory, and those below
-/// the size.
+/// The bits of an offset that keep an access of `size` bytes from it: those that lead out of the
+/// memory, and those below the size.
 #[tactic(auto, using(crate::proofs::Places::masked))]
 #[inline]
 fn fault_bits(offset: u32, size: AccessSize) -> u32
@@ -157,15 +159,16 @@ fn fault_bits(offset: u32, size: AccessSize) -> u32
     offset & (OUTSIDE + (size.bytes - 1))
 }
 
-/// The offset at which an access of `size` bytes at `addr` is made, or the cause for which it isn't.
+/// The offset at which an access of `size` bytes at `address` is made, or the cause for which it
+/// isn't.
 #[inline]
-fn place(addr: u32, size: AccessSize) -> Result<usize, Stop>
-    ensures value { result ≡ checked_access addr size.bytes (λ offset. offset) }
+fn place(address: u32, size: AccessSize) -> Result<usize, Stop>
+    ensures value { result ≡ checked_access address size.bytes (λ offset. offset) }
     ensures within { IfOk result (λ offset. offset + size.bytes ≤ PRIVATE_SIZE) }
 {
-    match offset_of(addr, size) {
+    match offset_of(address, size) {
         Some(offset) => Ok(offset),
-        None if addr & (size.bytes - 1) != 0 => Err(Stop::Misaligned(addr)),
-        None => Err(Stop::Unmapped(addr)),
+        None if address & (size.bytes - 1) != 0 => Err(Stop::Misaligned(address)),
+        None => Err(Stop::Unmapped(address)),
     }
 }

@@ -6,7 +6,7 @@ use Rattle.std.proofs.lemmas.List.Elements.{All-cons, All-head, All-tail, All-co
 use Rattle.std.proofs.lemmas.List.Kept.{AllPairs-cons}
 use Rattle.ce_model.specs.declared.topology.BlockId.{BlockId}
 use Rattle.ce_model.specs.Blocks.{Block, is_lower, with_id}
-use Rattle.xm_block.specs.Stores.{AreApart, ids_of, with_block}
+use Rattle.xm_block.specs.Stores.{AreBlocksApart, ids_of, with_block}
 use Rattle.xm_block.proofs.Names.{ids_of-with_block}
 
 -- names that differ
@@ -51,12 +51,12 @@ apart-put id (m ∷ ms) ids pairs =
     (apart-put id ms ids (AllPairs-cons IsOther id (ms ++ ids) (All-tail (IsOther id) m (ms ++ ids) apart) (tail m (ms ++ ids) rest)))
 
 -- the first of such blocks isn't in the store
-pub apart-first : (block : Block) (blocks store_blocks : List Block) → AreApart (block ∷ blocks) store_blocks → Contains (ids_of store_blocks) block.id → ⊥
+pub apart-first : (block : Block) (blocks store_blocks : List Block) → AreBlocksApart (block ∷ blocks) store_blocks → Contains (ids_of store_blocks) block.id → ⊥
 apart-first block blocks store_blocks pairs there =
     All-contains (IsOther block.id) (ids_of blocks ++ ids_of store_blocks) block.id (head block.id (ids_of blocks ++ ids_of store_blocks) pairs)
     (Contains-append_right (ids_of blocks) (ids_of store_blocks) block.id there) refl
 
 -- once it is, the others aren't
-pub apart-rest : (block : Block) (blocks store_blocks : List Block) → AreApart (block ∷ blocks) store_blocks → AreApart blocks (with_block block store_blocks)
+pub apart-rest : (block : Block) (blocks store_blocks : List Block) → AreBlocksApart (block ∷ blocks) store_blocks → AreBlocksApart blocks (with_block block store_blocks)
 apart-rest block blocks store_blocks pairs =
     subst (λ (ids : List BlockId). AllPairs IsOther (ids_of blocks ++ ids)) (sym (ids_of-with_block block store_blocks)) (apart-put block.id (ids_of blocks) (ids_of store_blocks) pairs)

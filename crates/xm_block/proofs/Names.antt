@@ -8,8 +8,8 @@ use Rattle.std.proofs.lemmas.Bool.Decides.{nat_tests}
 use Rattle.std.proofs.lemmas.List.{get_or-map, length-map}
 use Rattle.ce_model.specs.declared.topology.BlockId.{BlockId}
 use Rattle.ce_model.specs.Blocks.{Block, is_lower, with_id}
-use Rattle.xm_block.specs.Rising.{IsRising}
-use Rattle.xm_block.specs.Stores.{is_before, ids_of, with_block}
+use Rattle.ce_model.specs.Rising.{IsRising}
+use Rattle.xm_block.specs.Stores.{is_block_before, ids_of, with_block}
 use Rattle.xm_block.proofs.Rises.{AllPairs-insert}
 
 pub precedes-trans : (a b c : BlockId) → is_lower a b ≡ true → is_lower b c ≡ true → is_lower a c ≡ true
@@ -28,7 +28,7 @@ not-false true h = refl
 not-false false h = absurd (cc)
 
 -- among blocks in order, those that a name isn't before come first
-pub partitioned : (id : BlockId) (blocks : List Block) → IsRising is_before blocks → IsPartitionedBy (λ other. not (is_lower id other.id)) blocks
+pub partitioned : (id : BlockId) (blocks : List Block) → IsRising is_block_before blocks → IsPartitionedBy (λ other. not (is_lower id other.id)) blocks
 partitioned id blocks rising i j d low high h = by (cases_lt i j)
   where
     by : (i < j) ⊎ (j ≤ i) → not (is_lower id (get_or blocks i d).id) ≡ true
@@ -39,11 +39,11 @@ partitioned id blocks rising i j d low high h = by (cases_lt i j)
     ]
 
 -- the block that goes in has a name of its own, so it keeps the order
-pub rising-insert : (block : Block) (blocks : List Block) (i : ℕ) → i ≤ length blocks → IsRising is_before blocks → (Contains (ids_of blocks) block.id → ⊥)
+pub rising-insert : (block : Block) (blocks : List Block) (i : ℕ) → i ≤ length blocks → IsRising is_block_before blocks → (Contains (ids_of blocks) block.id → ⊥)
     → AllWithin (λ other. is_lower block.id other.id ≡ false) blocks 0 i → AllWithin (λ other. is_lower block.id other.id ≡ true) blocks i (length blocks)
-    → IsRising is_before (insert blocks i block)
+    → IsRising is_block_before (insert blocks i block)
 rising-insert block blocks i h rising apart passed ahead =
-    AllPairs-insert (λ a b. is_before a b ≡ true) blocks i block h rising
+    AllPairs-insert (λ a b. is_block_before a b ≡ true) blocks i block h rising
     (λ k d low high. precedes-other block.id _ (passed k d low high)
     (λ same. apart (k, simp length-map (omega arith), get_or-map (λ b. b.id) blocks k d block.id (omega arith) ∙ same)))
     ahead
@@ -57,11 +57,11 @@ ids_of-with_block block (other ∷ blocks) = elim (cases_Bool (is_lower block.id
 ]
 
 -- the first of blocks in order is before the others
-pub least : (taken : Option Block) (rest blocks : List Block) → blocks ≡ option_to_list taken ++ rest → IsRising is_before blocks
-    → IfSome taken (λ block. All (λ other. is_before block other ≡ true) rest)
+pub least : (taken : Option Block) (rest blocks : List Block) → blocks ≡ option_to_list taken ++ rest → IsRising is_block_before blocks
+    → IfSome taken (λ block. All (λ other. is_block_before block other ≡ true) rest)
 least None rest blocks e rising = tt
 least (Some block) rest blocks e rising =
-    let all : IsRising is_before (block ∷ rest) = subst (IsRising is_before) e rising in
+    let all : IsRising is_block_before (block ∷ rest) = subst (IsRising is_block_before) e rising in
     λ k d high. all 0 (suc k) d (omega arith) (omega arith)
 
 -- a name that differs from each of these isn't among them

@@ -3,9 +3,10 @@ use Rattle.std.proofs.Common.{◌≡◌, ◌⊎◌, ℕ, zero, suc, ◌+◌, ◌
 use Rattle.std.specs.List.{AllWithin, AllPairs, insert}
 use Rattle.std.proofs.lemmas.List.Edits.{length-insert, get_or-insert_below, get_or-insert_at, get_or-insert_above}
 use Rattle.std.proofs.lemmas.Bool.{cases_order}
-use Rattle.xm_block.specs.Rising.{with_inserted}
+use Rattle.ce_model.specs.Rising.{with_inserted}
 
--- the place at which an element goes in: it is before none that it passes, and before those behind it
+-- the place at which an element goes in: it is before none that it passes, and before those behind
+-- it
 pub put_in-at : {X : Type 0} (before : X → X → Bool) (x : X) (xs : List X) (i : ℕ) → i ≤ length xs
     → AllWithin (λ y. before x y ≡ false) xs 0 i → AllWithin (λ y. before x y ≡ true) xs i (length xs)
     → insert xs i x ≡ with_inserted before x xs
@@ -29,7 +30,8 @@ module _ {X : Type 0} (R : X → X → Type 0) (xs : List X) (i : ℕ) (x : X) (
   joined : (a b c d : X) → a ≡ c → b ≡ d → R c d → R a b
   joined a b c d p q r = rw (p, q) r
 
-  -- what holds of all pairs holds of them with one element more, where it does of that one and those on either side
+  -- what holds of all pairs holds of them with one element more, where it does of that one and
+  -- those on either side
   pub AllPairs-insert : AllPairs R xs → AllWithin (λ y. R y x) xs 0 i → AllWithin (R x) xs i (length xs) → AllPairs R (insert xs i x)
   AllPairs-insert pairs passed ahead a b d low high =
       let long : length (insert xs i x) ≡ length xs + 1 = length-insert xs i x h in

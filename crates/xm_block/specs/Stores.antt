@@ -2,7 +2,7 @@
 use Rattle.std.specs.Prelude.{ℕ, Bool, List, [], ◌∷◌, ◌++◌, ◌≢◌, AllPairs, map}
 use Rattle.ce_model.specs.declared.topology.BlockId.{BlockId}
 use Rattle.ce_model.specs.Blocks.{Block, is_lower}
-use Rattle.xm_block.specs.Rising.{with_inserted}
+use Rattle.ce_model.specs.Rising.{with_inserted}
 
 -- a store: its blocks by rising name, and how many more it has room for
 pub record BlockStore : Type 0 where
@@ -10,8 +10,8 @@ pub record BlockStore : Type 0 where
   pub spare : ℕ
 
 -- blocks are ordered by their names
-abbrev pub is_before : Block → Block → Bool
-is_before a b = is_lower a.id b.id
+abbrev pub is_block_before : Block → Block → Bool
+is_block_before a b = is_lower a.id b.id
 
 -- the names of blocks
 abbrev pub ids_of : List Block → List BlockId
@@ -19,7 +19,7 @@ ids_of blocks = map (λ block. block.id) blocks
 
 -- blocks by rising name, with one block more in its place
 abbrev pub with_block : Block → List Block → List Block
-with_block = with_inserted is_before
+with_block = with_inserted is_block_before
 
 -- with several blocks more, one after the other
 abbrev pub with_blocks : List Block → List Block → List Block
@@ -27,5 +27,5 @@ with_blocks [] store_blocks = store_blocks
 with_blocks (block ∷ blocks) store_blocks = with_blocks blocks (with_block block store_blocks)
 
 -- the names of these blocks, and of those in a store, all differ
-abbrev pub AreApart : List Block → List Block → Type 0
-AreApart blocks store_blocks = AllPairs (λ a b. a ≢ b) (ids_of blocks ++ ids_of store_blocks)
+abbrev pub AreBlocksApart : List Block → List Block → Type 0
+AreBlocksApart blocks store_blocks = AllPairs (λ a b. a ≢ b) (ids_of blocks ++ ids_of store_blocks)

@@ -7,8 +7,9 @@ use rv_model::{AccessSize, number_in, put_number};
 use std::alloc::Global;
 use std::marker::Model;
 
-/// A block of message memory: a name that it keeps for good, and the bytes that it holds now, `BLOCK_ROOM` at most. There
-/// is one block of a name, so it isn't `Clone`. Contracts see its name and its bytes.
+/// A block of message memory: a name that it keeps for good, and the bytes that it holds now,
+/// `BLOCK_ROOM` at most. There is one block of a name, so it isn't `Clone`. Contracts see its name
+/// and its bytes.
 #[derive(Drop)]
 pub struct Block {
     id: BlockId,
@@ -90,8 +91,8 @@ impl Block {
         self.fill(other.bytes());
     }
 
-    /// The number in the bytes from `offset` on, of which there are `size`, little-endian. They are all within the block's
-    /// length.
+    /// The number in the bytes from `offset` on, of which there are `size`, little-endian. They are
+    /// all within the block's length.
     pub fn load(&self, offset: u32, size: AccessSize) -> u32
         requires within { offset + size.bytes ≤ length self.now.bytes }
         ensures value { result ≡ number_at self.now.bytes offset size.bytes }
@@ -100,8 +101,8 @@ impl Block {
         number_in(self.bytes(), offset as usize, size)
     }
 
-    /// Stores the lowest bytes of `value` from `offset` on, `size` of them, little-endian. They are all within the block's
-    /// length.
+    /// Stores the lowest bytes of `value` from `offset` on, `size` of them, little-endian. They are
+    /// all within the block's length.
     pub fn store(&mut self, offset: u32, size: AccessSize, value: u32)
         requires within { offset + size.bytes ≤ length self.old.bytes }
         ensures after { self.new

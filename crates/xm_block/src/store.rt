@@ -1,8 +1,8 @@
 ghost use Rattle.std.specs.Prelude.{◌≡◌, ◌≤◌, ◌+◌, ◌-◌, ◌↔◌, [], ◌∷◌, length, All, Contains, IsTrue, IsNone, IfSome, IfNone, IfOk};
 ghost use Rattle.ce_model.specs.Limits.{home_blocks};
 ghost use Rattle.ce_model.specs.Blocks.{blocks_of_home, with_id};
-ghost use Rattle.xm_block.specs.Rising.{IsRising};
-ghost use Rattle.xm_block.specs.Stores.{ids_of, is_before, with_block};
+ghost use Rattle.ce_model.specs.Rising.{IsRising};
+ghost use Rattle.xm_block.specs.Stores.{ids_of, is_block_before, with_block};
 
 use crate::Block;
 use crate::order::place_of;
@@ -11,8 +11,8 @@ use std::alloc::Global;
 use std::collections::VecDeque;
 use std::marker::Model;
 
-/// A store of blocks that nobody uses, with room for a number of them. Contracts see its blocks by rising name, and
-/// how many more it has room for.
+/// A store of blocks that nobody uses, with room for a number of them. Contracts see its blocks by
+/// rising name, and how many more it has room for.
 #[derive(Drop)]
 pub struct Store {
     blocks: VecDeque<Block>,
@@ -25,14 +25,14 @@ impl Model for Store {
 
     ghost Value = { BlockStore };
 
-    ghost use Rattle.xm_block.specs.Tables.{IsTable};
+    ghost use Rattle.xm_block.specs.Tables.{IsStoreTable};
 
     ghost view = { λ store. record {
       blocks = store.blocks.items;
       spare = store.room - length store.blocks.items;
     } };
 
-    ghost invariant = { IsTable };
+    ghost invariant = { IsStoreTable };
 }
 
 impl Store {
@@ -47,8 +47,8 @@ impl Store {
         })
     }
 
-    /// A store with all blocks of a home, each of length 0, and room for so many blocks, `HOME_BLOCKS` at least. `NoMemory`
-    /// may come at any time.
+    /// A store with all blocks of a home, each of length 0, and room for so many blocks,
+    /// `HOME_BLOCKS` at least. `NoMemory` may come at any time.
     #[tactic(auto, using(ce_model::specs::Limits::home_blocks_lem))]
     pub fn of_home(alloc: Global, home: u32, room: u32) -> Result<Store, NoMemory>
         requires { home_blocks ≤ room }
@@ -65,7 +65,7 @@ impl Store {
     /// How many blocks are in the store.
     pub fn count(&self) -> u32
         ensures count { result ≡ length self.now.blocks }
-        ensures rising { IsRising is_before self.now.blocks }
+        ensures rising { IsRising is_block_before self.now.blocks }
     {
         self.blocks.len() as u32
     }
@@ -75,7 +75,7 @@ impl Store {
         ensures empty { IsNone result ↔ (self.old.blocks ≡ []) }
         ensures taken { IfSome result (λ block. self.old.blocks ≡ block ∷ self.new.blocks) }
         ensures least { IfSome result
-            (λ block. All (λ other. IsTrue (is_before block other)) self.new.blocks) }
+            (λ block. All (λ other. IsTrue (is_block_before block other)) self.new.blocks) }
         ensures room { IfSome result (λ _. self.new.spare ≡ self.old.spare + 1) }
         ensures unchanged { IfNone result (self.new ≡ self.old) }
     {

@@ -8,7 +8,7 @@ use Rattle.std.proofs.lemmas.List.Edits.{split_between, length-between, get_or-b
 use Rattle.std.proofs.lemmas.List.Elements.{filter-append}
 use Rattle.std.proofs.lemmas.List.Kept.{AllPairs-filter}
 use Rattle.ce_model.specs.Blocks.{Block}
-use Rattle.xm_block.specs.Rising.{IsRising}
+use Rattle.ce_model.specs.Rising.{IsRising}
 use Rattle.xm_owner.specs.Holdings.{Mapping, process_blocks, without_process}
 use Rattle.xm_owner.specs.Tables.{is_key_before, mappings_of}
 use Rattle.xm_owner.specs.Ranges.{IsDrainedRange}

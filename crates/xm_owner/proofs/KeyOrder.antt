@@ -4,7 +4,7 @@ use Rattle.std.specs.List.{AllWithin, position_or_len, insert}
 use Rattle.std.specs.List.Sorted.{IsPartitionedBy, IsPartitionPoint}
 use Rattle.std.proofs.lemmas.Bool.{cases_lt}
 use Rattle.std.proofs.lemmas.Bool.Decides.{nat_tests}
-use Rattle.xm_block.specs.Rising.{IsRising}
+use Rattle.ce_model.specs.Rising.{IsRising}
 use Rattle.xm_block.proofs.Rises.{AllPairs-insert}
 use Rattle.xm_owner.specs.declared.key.Key.{Key}
 use Rattle.xm_owner.specs.Tables.{is_key_before, is_same_key}

@@ -6,8 +6,8 @@ use Rattle.std.proofs.lemmas.Bool.{cases_Bool, cases_lt}
 use Rattle.std.proofs.lemmas.Option.{slice_get_past, slice_get-get_or}
 use Rattle.std.proofs.lemmas.List.{get_or-map, length-map}
 use Rattle.ce_model.specs.Blocks.{Block}
-use Rattle.xm_block.specs.Rising.{IsRising}
-use Rattle.xm_owner.specs.Holdings.{Mapping, is_before, block_held_at, with_mapping, mappings_without, with_block_at}
+use Rattle.ce_model.specs.Rising.{IsRising}
+use Rattle.xm_owner.specs.Holdings.{Mapping, is_mapping_before, block_held_at, with_mapping, mappings_without, with_block_at}
 use Rattle.xm_owner.specs.Tables.{is_key_before, is_same_key, mappings_of}
 use Rattle.xm_owner.specs.declared.key.Key.{Key}
 use Rattle.xm_owner.proofs.KeyOrder.{key_after, is_key_before-apart, is_key_before-behind, is_same_key-before}
@@ -28,7 +28,7 @@ keys_of (key ∷ keys) (block ∷ blocks) h = ap (λ rest. key ∷ rest) (keys_o
 pub length-mappings_of : (keys : List Key) (blocks : List Block) → length blocks ≡ length keys → length (mappings_of keys blocks) ≡ length keys
 length-mappings_of keys blocks h = sym (length-map (mappings_of keys blocks) key_of) ∙ ap length (keys_of keys blocks h)
 
-pub rising-mappings_of : (keys : List Key) (blocks : List Block) → length blocks ≡ length keys → IsRising is_key_before keys → IsRising is_before (mappings_of keys blocks)
+pub rising-mappings_of : (keys : List Key) (blocks : List Block) → length blocks ≡ length keys → IsRising is_key_before keys → IsRising is_mapping_before (mappings_of keys blocks)
 rising-mappings_of keys blocks h rising i j d low high =
     let long = length-mappings_of keys blocks h in
     let at : (k : ℕ) → k < length keys → get_or keys k (key_of d) ≡ key_of (get_or (mappings_of keys blocks) k d) =

@@ -7,8 +7,10 @@ use Rattle.xm_owner.specs.Tables.{mappings_of}
 use Rattle.xm_owner.specs.declared.key.Key.{Key}
 
 -- what is left where the keys from place `first` up to `last` are those of the process
-pub record IsDrainedRange (pid : ℕ) (keys : List Key) (blocks : List Block) (first last : ℕ) : Type 0 where
-  pub mappings : mappings_of (remove_range keys first last) (remove_range blocks first last) ≡ without_process pid (mappings_of keys blocks)
+pub record IsDrainedRange (pid : ℕ) (keys : List Key) (blocks : List Block)
+    (first last : ℕ) : Type 0 where
+  pub mappings : mappings_of (remove_range keys first last) (remove_range blocks first last)
+      ≡ without_process pid (mappings_of keys blocks)
   pub taken : slice_range blocks first last ≡ process_blocks pid (mappings_of keys blocks)
   pub keys_left : length (remove_range keys first last) + (last - first) ≡ length keys
   pub blocks_left : length (remove_range blocks first last) + (last - first) ≡ length keys

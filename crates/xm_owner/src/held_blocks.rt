@@ -1,10 +1,10 @@
 ghost use Rattle.std.specs.Prelude.{◌≡◌, ◌≢◌, ℕ, ◌≤◌, ◌+◌, ◌-◌, [], length, Some, None, IfOk, IsSome, IfSome, IfNone, slice_get, slice_range, vec_capacity};
 ghost use Rattle.std.specs.List.{remove_range};
-ghost use Rattle.xm_block.specs.Stores.{AreApart, with_blocks};
+ghost use Rattle.xm_block.specs.Stores.{AreBlocksApart, with_blocks};
 ghost use Rattle.std.specs.Option.{option_copied, option_copied_mut};
 ghost use Rattle.std.specs.Borrow.{sem};
-ghost use Rattle.xm_block.specs.Rising.{IsRising};
-ghost use Rattle.xm_owner.specs.Holdings.{is_before, block_held_at, with_mapping, mappings_without, process_blocks, without_process, HasChangedOnly};
+ghost use Rattle.ce_model.specs.Rising.{IsRising};
+ghost use Rattle.xm_owner.specs.Holdings.{is_mapping_before, block_held_at, with_mapping, mappings_without, process_blocks, without_process, HasChangedOnly};
 ghost use Rattle.xm_owner.specs.Loans.{LendsBlock};
 
 use crate::key::Key;
@@ -15,8 +15,8 @@ use std::alloc::Global;
 use std::marker::Model;
 use xm_block::{Block, Store};
 
-/// The blocks that the processes of a node hold, each in a window of a process, with room for a number of them.
-/// Contracts see a finite map, by process and window.
+/// The blocks that the processes of a node hold, each in a window of a process, with room for a
+/// number of them. Contracts see a finite map, by process and window.
 #[derive(Drop)]
 pub struct HeldBlocks {
     keys: Keys,
@@ -31,14 +31,14 @@ impl Model for HeldBlocks {
     ghost Value = { MappingTable };
 
     ghost use Rattle.xm_owner.specs.Tables.{mappings_of};
-    ghost use Rattle.xm_owner.specs.HeldTables.{IsKept};
+    ghost use Rattle.xm_owner.specs.HeldTables.{IsHeldTable};
 
     ghost view = { λ table. record {
       mappings = mappings_of table.keys.list.items table.blocks.items;
       spare = table.room - length table.keys.list.items;
     } };
 
-    ghost invariant = { IsKept };
+    ghost invariant = { IsHeldTable };
 }
 
 impl HeldBlocks {
@@ -57,7 +57,7 @@ impl HeldBlocks {
     /// How many blocks are held.
     pub fn count(&self) -> u32
         ensures count { result ≡ length self.now.mappings }
-        ensures rising { IsRising is_before self.now.mappings }
+        ensures rising { IsRising is_mapping_before self.now.mappings }
     {
         self.keys.list.len() as u32
     }
@@ -94,11 +94,11 @@ impl HeldBlocks {
         Some(self.blocks.remove(place))
     }
 
-    /// Takes all blocks of a process out, and gives them to the store. The store has room for them, and all their names
-    /// and those of its blocks differ.
+    /// Takes all blocks of a process out, and gives them to the store. The store has room for them,
+    /// and all their names and those of its blocks differ.
     pub fn drain(&mut self, pid: u32, store: &mut Store)
         requires room { length (process_blocks pid self.old.mappings) ≤ store.old.spare }
-        requires apart { AreApart (process_blocks pid self.old.mappings) store.old.blocks }
+        requires apart { AreBlocksApart (process_blocks pid self.old.mappings) store.old.blocks }
         ensures left { self.new ≡ record {
           mappings = without_process pid self.old.mappings;
           spare = self.old.spare + length (process_blocks pid self.old.mappings);
@@ -139,7 +139,7 @@ fn give_all(blocks: &mut Vec<Block>, first: usize, last: usize, store: &mut Stor
     requires order { first ≤ last }
     requires within { last ≤ length blocks.old.items }
     requires room { last - first ≤ store.old.spare }
-    requires apart { AreApart (slice_range blocks.old.items first last) store.old.blocks }
+    requires apart { AreBlocksApart (slice_range blocks.old.items first last) store.old.blocks }
     ensures left { blocks.new.items ≡ remove_range blocks.old.items first last }
     ensures capacity { vec_capacity blocks.new ≡ vec_capacity blocks.old }
     ensures moved { store.new ≡ record {

@@ -1,6 +1,6 @@
 ghost use Rattle.std.specs.Prelude.{◌≡◌, ◌<◌, ◌≤◌, [], true, false, nat_lt, List, length, vec_capacity, IfOk};
 ghost use Rattle.std.specs.List.{AllWithin, position_or_len, insert, remove, remove_range};
-ghost use Rattle.xm_block.specs.Rising.{IsRising};
+ghost use Rattle.ce_model.specs.Rising.{IsRising};
 ghost use Rattle.ce_model.specs.Blocks.{Block};
 ghost use Rattle.xm_owner.specs.Ranges.{IsDrainedRange};
 ghost use Rattle.xm_owner.specs.Tables.{is_key_before, is_same_key};
@@ -105,7 +105,8 @@ impl Keys {
         self.list.remove(place);
     }
 
-    /// Takes the keys of a process out, and answers the places from which and up to which they stood.
+    /// Takes the keys of a process out, and answers the places from which and up to which they
+    /// stood.
     pub fn remove_process(&mut self, pid: u32) -> (usize, usize)
         ensures order { result.0 ≤ result.1 }
         ensures within { result.1 ≤ length self.old.list.items }

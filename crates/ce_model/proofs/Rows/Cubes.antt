@@ -1,4 +1,5 @@
--- What the worked rows share: a cube of one node and one image, its entries, and a node that hears and says.
+-- What the worked rows share: a cube of one node and one image, its entries, and a node that hears
+-- and says.
 use Rattle.std.proofs.Common.{ℕ, List, [], ◌∷◌, None, true}
 use Rattle.rv_model.specs.Image.{ImageParts}
 use Rattle.ce_model.specs.declared.topology.TheConstants.{HOST}
@@ -22,8 +23,8 @@ use Rattle.ce_model.specs.Cube.{Cube, state, hoststore, next_entry}
 abbrev pub one_cube : ImageParts → Cube
 one_cube image = record { user = 0; dim = 0; images = image ∷ [] }
 
-abbrev pub by : ℕ → What → Entry
-by actor what = entry_of 0 actor what
+abbrev pub row_entry : ℕ → What → Entry
+row_entry actor what = entry_of 0 actor what
 
 abbrev pub place_0 : Place
 place_0 = place 0 0
@@ -40,19 +41,20 @@ abbrev pub host_parcel : ℕ → ℕ → List ℕ → Parcel
 host_parcel number index bytes =
     record { from = host_place; to = place_0; number = number; block = record { id = host_block index; bytes = bytes } }
 
--- the node of the fresh cube, a node once it has said its call and heard this answer, and the node once it was given the start
+-- the node of the fresh cube, a node once it has said its call and heard this answer, and the node
+-- once it was given the start
 abbrev pub fresh_node : Node
 fresh_node = opening_node 0 0 1
 
-abbrev pub after_hearing : ImageParts → Node → Hearing → Node
-after_hearing image node heard = node_after_hearing (image ∷ []) (says node).node heard
+abbrev pub row_node_after : ImageParts → Node → Hearing → Node
+row_node_after image node heard = node_after_hearing (image ∷ []) (says node).node heard
 
-abbrev pub begun : ImageParts → Node
-begun image = after_hearing image fresh_node (start_of 0 0)
+abbrev pub started_node : ImageParts → Node
+started_node image = row_node_after image fresh_node (start_of 0 0)
 
 -- process 0 is spawned, so many dispatches are allowed, and the node is given the start
-abbrev pub started : ℕ → List Entry
-started count = by HOST (Spawn 0 0 place_0 true) ∷ by HOST (Arm count) ∷ by 0 (Take 0 0 None (Start 0 0)) ∷ []
+abbrev pub start_entries : ℕ → List Entry
+start_entries count = row_entry HOST (Spawn 0 0 place_0 true) ∷ row_entry HOST (Arm count) ∷ row_entry 0 (Take 0 0 None (Start 0 0)) ∷ []
 
 -- to unfold this is to unfold all that a row's next entry is computed with
 unfoldable pub row_computes : Unit {0}

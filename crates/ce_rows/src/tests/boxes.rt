@@ -12,13 +12,13 @@ use std::test::Fail;
 #[tactic(auto, using(ce_model::specs::Limits::greatest_blocks_lem))]
 pub(crate) fn node_boxes(alloc: Global, dim: u32) -> Result<Vec<NodeBox>, Fail>
     requires { dim ≤ greatest_dim }
-    ensures { IfOk result (λ made. AreBoxes ⟦<NodeBox as Homed>⟧.home ⟦<NodeBox as Homed>⟧.clean
-        (2 ^ dim) (λ node. node) made.items) }
+    ensures { IfOk result (λ boxes. AreBoxes ⟦<NodeBox as Homed>⟧.home ⟦<NodeBox as Homed>⟧.clean
+        (2 ^ dim) (λ node. node) boxes.items) }
 {
-    let mut all = Vec::new(alloc);
+    let mut boxes = Vec::new(alloc);
     for node in 0..1u32 << dim {
-        let made = NodeBox::new(alloc, node, GREATEST_BLOCKS)?;
-        all.push(made)?;
+        let node_box = NodeBox::new(alloc, node, GREATEST_BLOCKS)?;
+        boxes.push(node_box)?;
     }
-    Ok(all)
+    Ok(boxes)
 }

@@ -2,7 +2,7 @@ ghost use Rattle.std.specs.Prelude.{◌≡◌, ◌^◌, [], ◌∷◌, IfOk};
 ghost use Rattle.rv_model.specs.declared.limits.TheConstants.{PRIVATE_START};
 ghost use Rattle.rv_model.specs.Image.{image_parts};
 ghost use Rattle.ce_daemon.specs.Boxes.{AreBoxes};
-ghost use Rattle.ce_rows.specs.RowEntries.{IsAt};
+ghost use Rattle.ce_rows.specs.RowEntries.{HasMadeRowEntries};
 ghost use Rattle.ce_rows.specs.Rows.{row_of, program};
 
 use crate::WorkedRow;
@@ -80,11 +80,11 @@ pub(crate) fn open<N: Homed>(
     boxes: Vec<N>,
 ) -> Result<Machine<N>, Fail>
     requires { AreBoxes N.home N.clean (2 ^ (row_of row).parts.dim) (λ node. node) boxes.items }
-    ensures { IfOk result (λ machine. IsAt (row_of row) 0 machine) }
+    ensures { IfOk result (λ machine. HasMadeRowEntries (row_of row) 0 machine) }
 {
     let dim = dim_of(row);
     let users = users_of(row);
-    let kept = images_of_rows(alloc)?;
-    let machine = Machine::new(alloc, dim, users, kept, boxes)?;
+    let images = images_of_rows(alloc)?;
+    let machine = Machine::new(alloc, dim, users, images, boxes)?;
     Ok(machine)
 }

@@ -2,7 +2,7 @@ ghost use Rattle.std.specs.Prelude.{◌≡◌, ◌+◌, ◌^◌, ◌<◌, IfOk};
 ghost use Rattle.ce_daemon.specs.Boxes.{AreBoxes};
 ghost use Rattle.ce_daemon.specs.declared.grant.Grant.{Grant};
 ghost use Rattle.ce_model.specs.Subcubes.{node_of};
-ghost use Rattle.ce_rows.specs.RowEntries.{IsAt, IsNextReply};
+ghost use Rattle.ce_rows.specs.RowEntries.{HasMadeRowEntries, IsNextRowReply};
 ghost use Rattle.ce_rows.specs.Rows.{row_of, node_0};
 
 use super::calls::call_at;
@@ -17,17 +17,17 @@ use std::test::Fail;
 
 // Makes the call of a row behind its first `count` ones.
 fn answer_row<N: Homed>(
-    shared: &mut Machine<N>,
+    machine: &mut Machine<N>,
     alloc: Global,
     row: WorkedRow,
     count: usize,
 ) -> Result<Reply<N>, Fail>
-    requires { IsAt (row_of row) count shared.old }
-    ensures at { IfOk result (λ _. IsAt (row_of row) (count + 1) shared.new) }
-    ensures reply { IfOk result (λ reply. IsNextReply N.home N.clean (row_of row) count reply) }
+    requires { HasMadeRowEntries (row_of row) count machine.old }
+    ensures at { IfOk result (λ _. HasMadeRowEntries (row_of row) (count + 1) machine.new) }
+    ensures reply { IfOk result (λ reply. IsNextRowReply N.home N.clean (row_of row) count reply) }
 {
-    let made = call_at(alloc, row, count)?;
-    let reply = ask(shared, alloc, row, count, made.who, made.call)?;
+    let row_call = call_at(alloc, row, count)?;
+    let reply = ask(machine, alloc, row, count, row_call.who, row_call.call)?;
     Ok(reply)
 }
 
@@ -41,33 +41,33 @@ fn expect<N: Homed>(row: WorkedRow, count: usize, reply: &Reply<N>) -> Result<()
 }
 
 // Makes a call of a row, and looks at the reply.
-fn step<N: Homed>(
-    shared: &mut Machine<N>,
+fn make_call<N: Homed>(
+    machine: &mut Machine<N>,
     alloc: Global,
     row: WorkedRow,
     count: usize,
 ) -> Result<(), Fail>
-    requires { IsAt (row_of row) count shared.old }
-    ensures { IfOk result (λ _. IsAt (row_of row) (count + 1) shared.new) }
+    requires { HasMadeRowEntries (row_of row) count machine.old }
+    ensures { IfOk result (λ _. HasMadeRowEntries (row_of row) (count + 1) machine.new) }
 {
-    let reply = answer_row(shared, alloc, row, count)?;
+    let reply = answer_row(machine, alloc, row, count)?;
     expect(row, count, &reply)
 }
 
 // Makes the first so many calls of a row.
 pub(crate) fn run<N: Homed>(
-    shared: &mut Machine<N>,
+    machine: &mut Machine<N>,
     alloc: Global,
     row: WorkedRow,
     end: usize,
 ) -> Result<(), Fail>
-    requires { IsAt (row_of row) 0 shared.old }
-    ensures { IfOk result (λ _. IsAt (row_of row) end shared.new) }
+    requires { HasMadeRowEntries (row_of row) 0 machine.old }
+    ensures { IfOk result (λ _. HasMadeRowEntries (row_of row) end machine.new) }
 {
     for count in 0..end {
-        step(shared, alloc, row, count)?;
+        make_call(machine, alloc, row, count)?;
     }
-    if shared.history().len() != end {
+    if machine.history().len() != end {
         return Err(Fail::from("another history"));
     }
     Ok(())
@@ -84,29 +84,29 @@ fn boxes_of<N: Homed>(reply: Reply<N>) -> Result<Vec<N>, Fail>
 }
 
 // The boxes of the first cube.
-fn first_boxes<N: Homed>(shared: &mut Machine<N>, alloc: Global) -> Result<Vec<N>, Fail>
-    requires { IsAt (row_of WorkedRow.NextOwner) 0 shared.old }
-    ensures at { IfOk result (λ _. IsAt (row_of WorkedRow.NextOwner) 1 shared.new) }
+fn first_boxes<N: Homed>(machine: &mut Machine<N>, alloc: Global) -> Result<Vec<N>, Fail>
+    requires { HasMadeRowEntries (row_of WorkedRow.NextOwner) 0 machine.old }
+    ensures at { IfOk result (λ _. HasMadeRowEntries (row_of WorkedRow.NextOwner) 1 machine.new) }
     ensures boxes { IfOk result (λ boxes.
         AreBoxes N.home N.clean 1 (node_of node_0) boxes.items) }
 {
-    let reply = answer_row(shared, alloc, WorkedRow::NextOwner, 0)?;
+    let reply = answer_row(machine, alloc, WorkedRow::NextOwner, 0)?;
     expect(WorkedRow::NextOwner, 0, &reply)?;
     boxes_of(reply)
 }
 
 // The first cube is given back.
-fn give_back<N: Homed>(shared: &mut Machine<N>, alloc: Global, boxes: Vec<N>) -> Result<(), Fail>
-    requires at { IsAt (row_of WorkedRow.NextOwner) 3 shared.old }
+fn give_back<N: Homed>(machine: &mut Machine<N>, alloc: Global, boxes: Vec<N>) -> Result<(), Fail>
+    requires at { HasMadeRowEntries (row_of WorkedRow.NextOwner) 3 machine.old }
     requires boxes { AreBoxes N.home N.clean 1 (node_of node_0) boxes.items }
-    ensures { IfOk result (λ _. IsAt (row_of WorkedRow.NextOwner) 4 shared.new) }
+    ensures { IfOk result (λ _. HasMadeRowEntries (row_of WorkedRow.NextOwner) 4 machine.new) }
 {
     let who = Who {
         family: 0,
         actor: HOST,
     };
     let reply = ask(
-        shared,
+        machine,
         alloc,
         WorkedRow::NextOwner,
         3,
@@ -117,15 +117,15 @@ fn give_back<N: Homed>(shared: &mut Machine<N>, alloc: Global, boxes: Vec<N>) ->
 }
 
 // The whole row of the next owner.
-pub(crate) fn next_owner<N: Homed>(shared: &mut Machine<N>, alloc: Global) -> Result<(), Fail>
-    requires { IsAt (row_of WorkedRow.NextOwner) 0 shared.old }
-    ensures { IfOk result (λ _. IsAt (row_of WorkedRow.NextOwner) 6 shared.new) }
+pub(crate) fn next_owner<N: Homed>(machine: &mut Machine<N>, alloc: Global) -> Result<(), Fail>
+    requires { HasMadeRowEntries (row_of WorkedRow.NextOwner) 0 machine.old }
+    ensures { IfOk result (λ _. HasMadeRowEntries (row_of WorkedRow.NextOwner) 6 machine.new) }
 {
     let row = WorkedRow::NextOwner;
-    let boxes = first_boxes(shared, alloc)?;
-    step(shared, alloc, row, 1)?;
-    step(shared, alloc, row, 2)?;
-    give_back(shared, alloc, boxes)?;
-    step(shared, alloc, row, 4)?;
-    step(shared, alloc, row, 5)
+    let boxes = first_boxes(machine, alloc)?;
+    make_call(machine, alloc, row, 1)?;
+    make_call(machine, alloc, row, 2)?;
+    give_back(machine, alloc, boxes)?;
+    make_call(machine, alloc, row, 4)?;
+    make_call(machine, alloc, row, 5)
 }

@@ -1,11 +1,12 @@
 use crate::WorkedRow;
 use ce_daemon::{Grant, Homed};
 use ce_machine::Reply;
-use ce_model::{BlockId, HOST, Place};
+use ce_model::{BlockId, HOST, HOST_HOME, Place};
 use rk_mail::{Hearing, Parcel};
 use xm_block::Block;
 
-// Whether a grant is the one of this number and this user, of the nodes with this mask from node 0 on.
+// Whether a grant is the one of this number and this user, of the nodes with this mask from node 0
+// on.
 fn is_grant(grant: &Grant, number: u64, user: u32, mask: u32) -> bool {
     grant.number == number
         && grant.user == user
@@ -72,7 +73,7 @@ fn next_owner_wants<N: Homed>(count: usize, reply: &Reply<N>) -> bool {
                     || count == 4 && is_grant(grant, 1, 1, 0))
         }
         Reply::Heard(Hearing::Posted(batch)) => count == 1 && batch.count() == 0,
-        Reply::Drained(blocks) => count == 2 && are_named(blocks.as_slice(), &[(256, 0)]),
+        Reply::Drained(blocks) => count == 2 && are_named(blocks.as_slice(), &[(HOST_HOME, 0)]),
         Reply::Freed => count == 3,
         Reply::Heard(Hearing::Idle) => count == 5,
         _ => false,
@@ -102,7 +103,7 @@ fn replies_want<N: Homed>(count: usize, reply: &Reply<N>) -> bool {
         Reply::Heard(Hearing::Posted(batch)) => count == 13 && batch.count() == 0,
         Reply::NoMail => count == 14,
         Reply::Heard(Hearing::Start { pid, image }) => count == 15 && *pid == 0 && *image == 0,
-        Reply::Drained(blocks) => count == 16 && are_named(blocks.as_slice(), &[(256, 0)]),
+        Reply::Drained(blocks) => count == 16 && are_named(blocks.as_slice(), &[(HOST_HOME, 0)]),
         _ => false,
     }
 }
@@ -140,7 +141,11 @@ fn waiting_mail_wants<N: Homed>(count: usize, reply: &Reply<N>) -> bool {
         Reply::Heard(Hearing::Noted) => count == 4,
         Reply::Heard(Hearing::Posted(batch)) => 5 <= count && count <= 8 && batch.count() == 0,
         Reply::Drained(blocks) => {
-            count == 9 && are_named(blocks.as_slice(), &[(256, 1), (256, 0), (256, 2), (1, 0)])
+            count == 9
+                && are_named(
+                    blocks.as_slice(),
+                    &[(HOST_HOME, 1), (HOST_HOME, 0), (HOST_HOME, 2), (1, 0)],
+                )
         }
         _ => false,
     }

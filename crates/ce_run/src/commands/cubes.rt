@@ -30,15 +30,15 @@ pub(crate) fn get_cube(
 ) -> Result<(UserState, Answer), NoMemory>
     requires ready { HasReadyUser machine.old images.now user host }
     requires dim { dim ≤ greatest_dim }
-    ensures { IfOk result (λ done.
-        HasDone serial machine.old machine.new user (Getcube dim) done.1 (user_facts done.0)) }
+    ensures { IfOk result (λ outcome. HasDone serial machine.old machine.new user (Getcube dim)
+        outcome.1 (user_facts outcome.0)) }
 {
     match ask(alloc, machine, user, Call::Getcube { dim })? {
         Reply::Granted { grant, boxes } => {
             let crew = SerialCrew::new(grant, boxes, host, images.len() as u32);
-            Ok((UserState::Holding(crew), Answer::Granted(grant.sub)))
+            Ok((UserState::CubeCrew(crew), Answer::Granted(grant.sub)))
         }
-        Reply::NoneFree => Ok((UserState::Free(host), Answer::None)),
+        Reply::NoneFree => Ok((UserState::HomeHost(host), Answer::None)),
         _ => unreachable!(),
     }
 }
@@ -67,22 +67,23 @@ pub(crate) fn free_cube(
     crew: SerialCrew,
 ) -> Result<(UserState, Answer), NoMemory>
     requires { HasCrew machine.old (serial_facts crew) }
-    ensures { IfOk result (λ done.
-        HasDone serial machine.old machine.new crew.grant.user Freecube done.1
-        (user_facts done.0)) }
+    ensures { IfOk result (λ outcome.
+        HasDone serial machine.old machine.new crew.grant.user Freecube outcome.1
+        (user_facts outcome.0)) }
 {
     let user = crew.grant.user;
-    let drained = drain(alloc, machine, user)?;
-    let (boxes, host) = come_home(crew, drained);
+    let drained_blocks = drain(alloc, machine, user)?;
+    let (boxes, host) = come_home(crew, drained_blocks);
     match ask(alloc, machine, user, Call::Freecube { boxes })? {
-        Reply::Freed => Ok((UserState::Free(host), Answer::Freed)),
+        Reply::Freed => Ok((UserState::HomeHost(host), Answer::Freed)),
         _ => unreachable!(),
     }
 }
 
 /// The boxes and the host of a crew that is done, with all blocks at home.
-fn come_home(crew: SerialCrew, drained: Vec<Block>) -> (Vec<NodeBox>, Host)
-    requires { HasAllBlocks (cube_grant crew.grant) crew.nodes.items crew.host drained.items }
+fn come_home(crew: SerialCrew, drained_blocks: Vec<Block>) -> (Vec<NodeBox>, Host)
+    requires { HasAllBlocks (cube_grant crew.grant) crew.nodes.items crew.host
+        drained_blocks.items }
     ensures { AreAllHome (cube_grant crew.grant) result.0.items result.1 }
 {
     let SerialCrew {
@@ -90,7 +91,7 @@ fn come_home(crew: SerialCrew, drained: Vec<Block>) -> (Vec<NodeBox>, Host)
         mut host,
         ..
     } = crew;
-    rehome(nodes.as_mut_slice(), &mut host, drained);
+    rehome(nodes.as_mut_slice(), &mut host, drained_blocks);
     (nodes, host)
 }
 

@@ -32,7 +32,8 @@ pub(crate) fn allow(
     Ok(())
 }
 
-/// The command `run` behind the dispatches that it allows: rounds until no node has work. `NoMemory` may come at any time.
+/// The command `run` behind the dispatches that it allows: rounds until no node has work.
+/// `NoMemory` may come at any time.
 pub(crate) fn run(
     alloc: Global,
     machine: &mut Machine<NodeBox>,
@@ -51,8 +52,9 @@ pub(crate) fn run(
     }
 }
 
-/// The command `recv` behind the dispatches that it allows: takes the first message for the host, with a round before each
-/// further look for one, until no node has work. `NoMemory` may come at any time.
+/// The command `recv` behind the dispatches that it allows: takes the first message for the host,
+/// with a round before each further look for one, until no node has work. `NoMemory` may come at
+/// any time.
 pub(crate) fn receive(
     alloc: Global,
     machine: &mut Machine<NodeBox>,
@@ -63,15 +65,15 @@ pub(crate) fn receive(
     ensures { IfOk result (HasEndedCommand serial Recv machine.old machine.new
         (serial_facts crew.old) (serial_facts crew.new)) }
 {
-    let mut working = true;
+    let mut has_work = true;
     'waiting: loop {
         if let Some((from, bytes)) = take_message(alloc, machine, crew)? {
             return Ok(Answer::Message(from, bytes));
         }
-        if !working {
+        if !has_work {
             break;
         }
-        working = round_serial(alloc, machine, crew, images)?;
+        has_work = round_serial(alloc, machine, crew, images)?;
     }
     match look(alloc, machine, crew)? {
         LookResult::Quiet => Ok(Answer::None),
@@ -113,14 +115,15 @@ fn look(
     }
 }
 
-/// The next message for the host, if one waits: who sent it, and its bytes. The block goes to the host's store.
+/// The next message for the host, if one waits: who sent it, and its bytes. The block goes to the
+/// host's store.
 fn take_message(
     alloc: Global,
     machine: &mut Machine<NodeBox>,
     crew: &mut SerialCrew,
 ) -> Result<Option<(Place, Bytes)>, NoMemory>
     requires { HasCrew machine.old (serial_facts crew.old) }
-    ensures { IfOk result (λ taken. MatchOption taken
+    ensures { IfOk result (λ found. MatchOption found
         (HasTakenNone serial machine.old machine.new
         (serial_facts crew.old) (serial_facts crew.new))
         (λ message. HasTaken serial machine.old machine.new

@@ -3,13 +3,13 @@ ghost use Rattle.std.specs.Prelude.{◌≡◌, ◌<◌, ◌^◌, [], IfOk, IsSom
 ghost use Rattle.ce_model.specs.Node.{is_place};
 ghost use Rattle.ce_host.specs.declared.command.Command.TheVariants.{Kill, Send, Spawn};
 ghost use Rattle.ce_cube.specs.Crews.{serial_facts};
-ghost use Rattle.rk_mail.specs.Talk.{call_said};
+ghost use Rattle.rk_mail.specs.Talk.{call_of_say};
 ghost use Rattle.rk_mail.specs.declared.talk.Hearing.TheVariants.{Posted};
-ghost use Rattle.ce_record.specs.Asked.{heard_reply};
+ghost use Rattle.ce_record.specs.Asked.{hearing_reply};
 ghost use Rattle.ce_machine.specs.declared.call.Call.TheVariants as calls;
 ghost use Rattle.ce_script.specs.Rounds.{serial};
 ghost use Rattle.ce_run.specs.Asking.{IsHostCall, IsStartOrEnd};
-ghost use Rattle.ce_run.specs.UserStates.{HasCrew, HasDone, HasTold, own_crew};
+ghost use Rattle.ce_run.specs.UserStates.{HasCrew, HasDone, HasToldHost, own_crew};
 
 use crate::asking::ask_in_cube;
 use ce_cube::SerialCrew;
@@ -76,8 +76,8 @@ pub(crate) fn send(
     };
     let call = Call::Say(Say::Send { pid: 0, batch });
     match ask_in_cube(alloc, machine, crew, call)? {
-        Reply::Heard(heard) => {
-            crew.host.regain(batch_of(heard));
+        Reply::Heard(hearing) => {
+            crew.host.regain(batch_of(hearing));
             Ok(Answer::Ok)
         }
         _ => unreachable!(),
@@ -85,11 +85,11 @@ pub(crate) fn send(
 }
 
 /// The empty batch that comes back from a message.
-fn batch_of(heard: Hearing) -> Batch
-    requires { heard ≡ Posted [] }
+fn batch_of(hearing: Hearing) -> Batch
+    requires { hearing ≡ Posted [] }
     ensures { result ≡ [] }
 {
-    match heard {
+    match hearing {
         Hearing::Posted(batch) => batch,
         _ => unreachable!(),
     }
@@ -109,27 +109,27 @@ fn tell(
     alloc: Global,
     machine: &mut Machine<NodeBox>,
     crew: &mut SerialCrew,
-    said: Say,
+    say: Say,
 ) -> Result<Answer, NoMemory>
     requires crew { HasCrew machine.old (serial_facts crew.old) }
-    requires said { IsStartOrEnd (call_said said) }
+    requires said { IsStartOrEnd (call_of_say say) }
     requires call { IsHostCall machine.old.parts machine.old.history crew.old.grant.user
-        (calls.Say said) }
-    ensures { IfOk result (λ answer. HasTold serial machine.old machine.new crew.old.grant.user
-        (call_said said) answer (serial_facts crew.new)) }
+        (calls.Say say) }
+    ensures { IfOk result (λ answer. HasToldHost serial machine.old machine.new crew.old.grant.user
+        (call_of_say say) answer (serial_facts crew.new)) }
 {
-    match ask_in_cube(alloc, machine, crew, Call::Say(said))? {
-        Reply::Heard(heard) => Ok(answer_of_heard(heard)),
+    match ask_in_cube(alloc, machine, crew, Call::Say(say))? {
+        Reply::Heard(hearing) => Ok(answer_of_hearing(hearing)),
         _ => unreachable!(),
     }
 }
 
 /// What a host is told that hears so of what it started or ended.
-fn answer_of_heard(heard: Hearing) -> Answer
-    requires { IsSome (heard_reply heard) }
-    ensures { heard_reply heard ≡ Some result }
+fn answer_of_hearing(hearing: Hearing) -> Answer
+    requires { IsSome (hearing_reply hearing) }
+    ensures { hearing_reply hearing ≡ Some result }
 {
-    match heard {
+    match hearing {
         Hearing::Posted(_) | Hearing::Spawned | Hearing::Killed => Answer::Ok,
         Hearing::Used => Answer::Used,
         Hearing::Unused => Answer::Unused,

@@ -13,15 +13,15 @@ use ce_host::Answer;
 use ce_model::Place;
 
 /// What the process of a place does.
-pub(crate) fn status(crew: &SerialCrew, at: Place) -> Answer
+pub(crate) fn status(crew: &SerialCrew, place: Place) -> Answer
     requires { (parts : MachineParts) × (history : List Entry)
         × IsCrewInStep parts history (serial_facts crew.now) }
     ensures { (parts : MachineParts) (history : List Entry)
         → IsCrewInStep parts history (serial_facts crew.now)
-        → IsNextCommand serial parts history crew.now.grant.user (Dump at) result [] }
+        → IsNextCommand serial parts history crew.now.grant.user (Dump place) result [] }
 {
-    if !has_place(crew, at) {
+    if !has_place(crew, place) {
         return Answer::NoPlace;
     }
-    Answer::State(crew.nodes[at.node as usize].status(at.pid))
+    Answer::State(crew.nodes[place.node as usize].status(place.pid))
 }

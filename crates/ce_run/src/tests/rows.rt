@@ -235,7 +235,8 @@ pub(super) const SIZES: Row = Row {
     ],
 };
 
-/// A process has `WINDOW_COUNT` windows; a message that finds none left is its end, and the message's block goes to the store.
+/// A process has `WINDOW_COUNT` windows; a message that finds none left is its end, and the
+/// message's block goes to the store.
 pub(super) const WINDOWS: Row = Row {
     title: "windows",
     script: &[

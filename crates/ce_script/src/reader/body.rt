@@ -3,7 +3,7 @@ ghost use Rattle.std.specs.Prelude.{◌≡◌, ◌++◌, ℕ, List, false, true,
 ghost use Rattle.std.specs.Prelude.{is_none, []};
 ghost use Rattle.std.specs.List.{list_any};
 ghost use Rattle.ce_text.specs.Line.{before_comment};
-ghost use Rattle.ce_text.specs.Words.{words_between};
+ghost use Rattle.ce_text.specs.Words.{line_words};
 ghost use Rattle.ce_script.specs.declared.grammar.ImageForm.TheVariants.{Hex, Asm, Rki};
 ghost use Rattle.ce_script.specs.Lines.{Line, has_bad_byte};
 ghost use Rattle.ce_script.specs.Statements.{found_body};
@@ -39,16 +39,16 @@ pub fn body_in<'a>(rest: Rest<'a>) -> Option<(Body<'a>, Rest<'a>)>
         (λ found. IsBodyIn rest.entry found.0 found.1) }
 {
     let all = rest.text?;
-    let mut left = rest;
-    while let Some((line, next)) = left.first_line() {
+    let mut tail = rest;
+    while let Some((line, next)) = tail.first_line() {
         if is_end(line) {
             let body = Body {
                 line: rest.line_count,
-                text: &all[..all.len() - left.byte_count()],
+                text: &all[..all.len() - tail.byte_count()],
             };
             return Some((body, next));
         }
-        left = next;
+        tail = next;
     }
     None
 }
@@ -61,12 +61,12 @@ fn bad_byte_line(body: Body) -> Option<u32>
     let mut number = body.line;
     let mut rest = Some(body.text);
     while let Some(bytes) = rest {
-        let (line, behind) = next_line(bytes);
+        let (line, tail) = next_line(bytes);
         number += 1;
         if !are_plain(before_comment(line)) {
             return Some(number);
         }
-        rest = behind;
+        rest = tail;
     }
     None
 }
@@ -99,18 +99,18 @@ fn push_word(bytes: &mut Vec<u8>, kind: WordKind, word: &[u8]) -> Result<(), Scr
 fn push_line(bytes: &mut Vec<u8>, kind: WordKind, line: &[u8]) -> Result<(), ScriptKind>
     ensures { MatchResult result
         (λ _. (list_any (λ word. is_none (word_bytes kind word))
-        (words_between (before_comment line.now)) ≡ false)
+        (line_words (before_comment line.now)) ≡ false)
         × (bytes.new.items ≡ bytes.old.items
         ++ flat_map (λ word. unwrap_or (word_bytes kind word) [])
-        (words_between (before_comment line.now))))
+        (line_words (before_comment line.now))))
         (λ fault. ScriptUnless fault ((fault ≡ BadImage)
         × (list_any (λ word. is_none (word_bytes kind word))
-        (words_between (before_comment line.now)) ≡ true))) }
+        (line_words (before_comment line.now)) ≡ true))) }
 {
     let mut rest = before_comment(line);
-    while let Some((word, behind)) = next_word(rest) {
+    while let Some((word, tail)) = next_word(rest) {
         push_word(bytes, kind, word)?;
-        rest = behind;
+        rest = tail;
     }
     Ok(())
 }
@@ -129,12 +129,12 @@ fn bytes_of(alloc: Global, kind: WordKind, body: Body) -> Result<Vec<u8>, Script
     let mut number = body.line;
     let mut rest = Some(body.text);
     while let Some(text) = rest {
-        let (line, behind) = next_line(text);
+        let (line, tail) = next_line(text);
         number += 1;
         if let Err(fault) = push_line(&mut bytes, kind, line) {
-            return Err(fault.at(number));
+            return Err(fault.fault_of_line(number));
         }
-        rest = behind;
+        rest = tail;
     }
     Ok(bytes)
 }
@@ -148,7 +148,7 @@ fn hex_image(alloc: Global, body: Body) -> Result<Image, ScriptFault>
     let bytes = bytes_of(alloc, WordKind::Instruction, body)?;
     match Image::of_parts(PRIVATE_START, bytes, 0) {
         Ok(image) => Ok(image),
-        Err(_) => Err(ScriptKind::BadImage.at(body.line)),
+        Err(_) => Err(ScriptKind::BadImage.fault_of_line(body.line)),
     }
 }
 
@@ -162,8 +162,8 @@ fn rki_image(alloc: Global, body: Body) -> Result<Image, ScriptFault>
     match rv_image::read(alloc, bytes.as_slice()) {
         Ok(image) => Ok(image),
         Err(fault) => match fault {
-            ImageFault::Memory(want) => Err(ScriptKind::Memory(want).at(body.line)),
-            _ => Err(ScriptKind::BadImage.at(body.line)),
+            ImageFault::Memory(want) => Err(ScriptKind::Memory(want).fault_of_line(body.line)),
+            _ => Err(ScriptKind::BadImage.fault_of_line(body.line)),
         },
     }
 }
@@ -177,8 +177,8 @@ fn asm_image(alloc: Global, body: Body) -> Result<Image, ScriptFault>
     match assemble(alloc, body.text) {
         Ok(image) => Ok(image),
         Err(fault) => match fault.kind {
-            AsmKind::Memory(want) => Err(ScriptKind::Memory(want).at(body.line)),
-            kind => Err(ScriptKind::Assembly(kind).at(body.line + fault.line)),
+            AsmKind::Memory(want) => Err(ScriptKind::Memory(want).fault_of_line(body.line)),
+            kind => Err(ScriptKind::Assembly(kind).fault_of_line(body.line + fault.line)),
         },
     }
 }
@@ -190,7 +190,7 @@ pub fn image_in(alloc: Global, form: ImageForm, body: Body) -> Result<Image, Scr
         → HasFound result (body_fault form body.entry.line lines) (Some (form_image form lines)) }
 {
     if let Some(line) = bad_byte_line(body) {
-        return Err(ScriptKind::BadByte.at(line));
+        return Err(ScriptKind::BadByte.fault_of_line(line));
     }
     match form {
         ImageForm::Hex => hex_image(alloc, body),

@@ -1,7 +1,7 @@
 //! Lines and their words.
 ghost use Rattle.std.specs.Prelude.{◌≡◌, ◌≤◌, ◌<◌, ◌+◌, ◌^◌, ◌∷◌, ◌++◌, [], codes, length, map, IfOk, IfSome, Some, OnOk, MatchResult};
 ghost use Rattle.ce_text.specs.Line.{before_comment};
-ghost use Rattle.ce_text.specs.Words.{words_between};
+ghost use Rattle.ce_text.specs.Words.{line_words};
 ghost use Rattle.ce_script.specs.Statements.{are_only};
 
 use ce_model::NoMemory;
@@ -17,28 +17,28 @@ pub struct WordedLine<'a> {
     pub text: &'a [u8],
     /// Its words.
     pub words: Vec<&'a [u8]>,
-    ghost split: { map (λ word. word.now) words.items ≡ words_between (before_comment text.now) },
+    ghost split: { map (λ word. word.now) words.items ≡ line_words (before_comment text.now) },
 }
 
 /// The words between blanks.
 fn words_of(alloc: Global, code: &[u8]) -> Result<Vec<&[u8]>, NoMemory>
-    ensures { IfOk result (λ list. map (λ word. word.now) list.items ≡ words_between code.now) }
+    ensures { IfOk result (λ list. map (λ word. word.now) list.items ≡ line_words code.now) }
 {
     let mut list = Vec::new(alloc);
     let mut rest = code;
-    while let Some((word, behind)) = next_word(rest) {
+    while let Some((word, tail)) = next_word(rest) {
         list.push(word)?;
-        rest = behind;
+        rest = tail;
     }
     Ok(list)
 }
 
 /// Whether a line's only word is `end`.
 pub fn is_end(line: &[u8]) -> bool
-    ensures { result ≡ are_only (codes "end") (words_between (before_comment line.now)) }
+    ensures { result ≡ are_only (codes "end") (line_words (before_comment line.now)) }
 {
     match next_word(before_comment(line)) {
-        Some((word, behind)) => word == b"end".as_slice() && next_word(behind).is_none(),
+        Some((word, tail)) => word == b"end".as_slice() && next_word(tail).is_none(),
         None => false,
     }
 }
@@ -72,7 +72,7 @@ impl<'a> WordedLine<'a> {
 
     /// How many words it has.
     pub fn count(&self) -> usize
-        ensures { result ≡ length (words_between (before_comment self.now.text.now)) }
+        ensures { result ≡ length (line_words (before_comment self.now.text.now)) }
     {
         self.words.len()
     }

@@ -22,13 +22,13 @@ use std::alloc::Global;
 
 /// The number at a place, at most this.
 #[tactic(auto, using(crate::proofs::Numbers::number_there, crate::proofs::Numbers::number_missing))]
-pub fn number(line: &WordedLine, place: usize, most: u32) -> Result<u32, ScriptKind>
+pub fn number(line: &WordedLine, place: usize, greatest: u32) -> Result<u32, ScriptKind>
     ensures { HasJudged result
-        (kind_where (is_none (bounded_number most (operand place (statement_of_line line.now))))
+        (kind_where (is_none (bounded_number greatest (operand place (statement_of_line line.now))))
         BadNumber)
         (Some (operand_number place (statement_of_line line.now))) }
 {
-    match number_to(line.operand(place), most) {
+    match number_to(line.operand(place), greatest) {
         Some(number) => Ok(number),
         None => Err(ScriptKind::BadNumber),
     }

@@ -1,7 +1,7 @@
 //! What is left of a text.
 ghost use Rattle.std.specs.Prelude.{◌+◌, ◌<◌, ◌≤◌, length, option_map};
 ghost use Rattle.ce_text.specs.declared.limits.TheConstants.{TEXT_LIMIT};
-ghost use Rattle.ce_script.specs.Lines.{size_of};
+ghost use Rattle.ce_script.specs.Lines.{rest_size};
 
 use ce_text::next_line;
 
@@ -12,7 +12,7 @@ pub struct Rest<'a> {
     pub line_count: u32,
     /// Their bytes; none where no line is left.
     pub text: Option<&'a [u8]>,
-    ghost counted: { line_count + size_of (option_map (λ bytes. bytes.now) text) ≤ TEXT_LIMIT },
+    ghost counted: { line_count + rest_size (option_map (λ bytes. bytes.now) text) ≤ TEXT_LIMIT },
 }
 
 /// The body of an image.
@@ -27,13 +27,13 @@ pub struct Body<'a> {
 
 impl<'a> Rest<'a> {
     ghost use Rattle.std.specs.Prelude.{◌≡◌, [], Some, None, unwrap_or, MatchOption};
-    ghost use Rattle.ce_script.specs.ReadLines.{left_of, IsFirstLine};
+    ghost use Rattle.ce_script.specs.ReadLines.{rest_text, IsFirstLine};
 
     /// All lines of a text.
     pub fn new(text: &'a [u8]) -> Rest<'a>
         requires { length text.now < TEXT_LIMIT }
         ensures before { result.line_count ≡ 0 }
-        ensures text { left_of result ≡ Some text.now }
+        ensures text { rest_text result ≡ Some text.now }
     {
         Rest {
             line_count: 0,
@@ -43,21 +43,21 @@ impl<'a> Rest<'a> {
 
     /// The first line, and the lines behind it.
     pub fn first_line(self) -> Option<(&'a [u8], Rest<'a>)>
-        ensures { MatchOption result (left_of self.entry ≡ None)
+        ensures { MatchOption result (rest_text self.entry ≡ None)
             (λ found. IsFirstLine self.entry found.0.now found.1) }
     {
         let bytes = self.text?;
-        let (line, behind) = next_line(bytes);
+        let (line, tail) = next_line(bytes);
         let next = Rest {
             line_count: self.line_count + 1,
-            text: behind,
+            text: tail,
         };
         Some((line, next))
     }
 
     /// How many bytes they have.
     pub fn byte_count(self) -> usize
-        ensures { result ≡ length (unwrap_or (left_of self.entry) []) }
+        ensures { result ≡ length (unwrap_or (rest_text self.entry) []) }
     {
         match self.text {
             Some(bytes) => bytes.len(),

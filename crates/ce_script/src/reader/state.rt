@@ -63,7 +63,7 @@ fn lacks_form(verb: Verb, line: &WordedLine) -> bool
 }
 
 /// The verb of a line whose words are as many as belong to it.
-pub fn verb_on(line: &WordedLine) -> Result<Verb, ScriptKind>
+pub fn line_verb(line: &WordedLine) -> Result<Verb, ScriptKind>
     ensures { HasJudged result (word_fault (statement_of_line line.now))
         (verb_of (words (plain_line line.now))) }
 {
@@ -84,7 +84,7 @@ pub fn verb_on(line: &WordedLine) -> Result<Verb, ScriptKind>
 }
 
 impl Reader {
-    ghost use Rattle.ce_script.specs.ReaderCalls.{HasBegun, HasSaid, HasSaidImage, HasSaidStatement, HasKept};
+    ghost use Rattle.ce_script.specs.ReaderCalls.{HasReadVerb, HasReadPart, HasReadImage, HasReadStatement, HasReadStatements};
 
     /// Nothing is said.
     pub fn new(alloc: Global) -> Reader
@@ -100,7 +100,7 @@ impl Reader {
     /// `machine D`
     #[tactic(auto, using(crate::proofs::OperandFaults::machine_fault))]
     fn machine(mut self, line: &WordedLine) -> Result<Reader, ScriptKind>
-        ensures { HasSaid result (rest_fault self.so_far Machine (statement_of_line line.now))
+        ensures { HasReadPart result (rest_fault self.so_far Machine (statement_of_line line.now))
             (with_statement self.so_far Machine (statement_of_line line.now)) }
     {
         self.so_far.script.dim = Some(number(line, 1, GREATEST_DIMENSION)?);
@@ -109,7 +109,7 @@ impl Reader {
 
     /// `user NAME`
     fn user(mut self, word: &[u8]) -> Result<Reader, ScriptKind>
-        ensures { HasSaid result (user_fault self.so_far.script.users word.now)
+        ensures { HasReadPart result (user_fault self.so_far.script.users word.now)
             (with_user self.so_far word.now) }
     {
         if !is_name(word) {
@@ -134,16 +134,16 @@ impl Reader {
     fn command(mut self, verb: Verb, line: &WordedLine) -> Result<Reader, ScriptKind>
         requires command { IsTrue (is_command verb) }
         requires user { IsTrue (is_some self.so_far.user) }
-        ensures { HasSaid result
+        ensures { HasReadPart result
             (operands_judgment (names_so_far self.so_far) verb (statement_of_line line.now))
             (with_command self.so_far
             (command_of_verb verb (names_so_far self.so_far) (statement_of_line line.now))) }
     {
-        let said = command(self.alloc, verb, line, &self.indexes.images)?;
+        let user_command = command(self.alloc, verb, line, &self.indexes.images)?;
         let Some(user) = self.so_far.user else {
             unreachable!();
         };
-        self.so_far.script.commands.push((user, said))?;
+        self.so_far.script.commands.push((user, user_command))?;
         Ok(self)
     }
 
@@ -173,36 +173,36 @@ impl Reader {
     ) -> Result<(Reader, Rest<'a>), ScriptFault>
         requires form { form_of (operand 2 (statement_of_line line.now)) ≡ Some form }
         requires at { rest.line_count ≡ line.now.number }
-        ensures image { HasSaidImage result self.so_far line.now rest.entry }
+        ensures image { HasReadImage result self.so_far line.now rest.entry }
         ensures past { IfOk result (λ next. remaining_statements true (lines_left rest.entry)
             ≡ remaining_statements false (lines_left next.1)) }
         ensures later { IfOk result (λ next. IsLater rest.entry next.1) }
     {
         let name = match self.new_name(line.operand(1)) {
             Ok(name) => name,
-            Err(kind) => return Err(kind.at(line.number)),
+            Err(kind) => return Err(kind.fault_of_line(line.number)),
         };
-        let Some((body, after)) = body_in(rest) else {
-            return Err(ScriptKind::NoEnd.at(line.number));
+        let Some((body, next)) = body_in(rest) else {
+            return Err(ScriptKind::NoEnd.fault_of_line(line.number));
         };
         let image = image_in(self.alloc, form, body)?;
         match self.add_image(NamedImage { name, image }) {
-            Ok(reader) => Ok((reader, after)),
-            Err(want) => Err(ScriptKind::Memory(want).at(line.number)),
+            Ok(reader) => Ok((reader, next)),
+            Err(want) => Err(ScriptKind::Memory(want).fault_of_line(line.number)),
         }
     }
 
     /// One image more.
-    fn add_image(mut self, named: NamedImage) -> Result<Reader, NoMemory>
-        requires { new_image_fault (names_so_far self.so_far) named.name ≡ None }
+    fn add_image(mut self, named_image: NamedImage) -> Result<Reader, NoMemory>
+        requires { new_image_fault (names_so_far self.so_far) named_image.name ≡ None }
         ensures { IfOk result (λ reader.
-            reader.so_far ≡ with_image self.so_far named.name named.image) }
+            reader.so_far ≡ with_image self.so_far named_image.name named_image.image) }
     {
         let number = self.so_far.script.images.len() as u32;
         self.indexes
             .images
-            .define(named.name.as_str().as_bytes(), number)?;
-        self.so_far.script.images.push(named)?;
+            .define(named_image.name.as_str().as_bytes(), number)?;
+        self.so_far.script.images.push(named_image)?;
         Ok(self)
     }
 
@@ -210,7 +210,7 @@ impl Reader {
     fn other_statement(self, verb: Verb, line: &WordedLine) -> Result<Reader, ScriptKind>
         requires plain { is_image verb ≡ false }
         requires user { IsTrue (is_command verb) → IsTrue (is_some self.so_far.user) }
-        ensures { HasSaid result (rest_fault self.so_far verb (statement_of_line line.now))
+        ensures { HasReadPart result (rest_fault self.so_far verb (statement_of_line line.now))
             (with_statement self.so_far verb (statement_of_line line.now)) }
     {
         match verb {
@@ -222,9 +222,9 @@ impl Reader {
 
     /// The verb of a statement that may stand here.
     fn verb(&self, line: &WordedLine) -> Result<Verb, ScriptKind>
-        ensures { HasBegun result self.now.so_far (statement_of_line line.now) }
+        ensures { HasReadVerb result self.now.so_far (statement_of_line line.now) }
     {
-        let verb = verb_on(line)?;
+        let verb = line_verb(line)?;
         self.so_far.check_place(verb)?;
         Ok(verb)
     }
@@ -236,18 +236,18 @@ impl Reader {
         rest: Rest<'a>,
     ) -> Result<(Reader, Rest<'a>), ScriptFault>
         requires { rest.line_count ≡ line.now.number }
-        ensures said { HasSaidStatement result self.so_far line.now rest.entry }
+        ensures said { HasReadStatement result self.so_far line.now rest.entry }
         ensures later { IfOk result (λ next. IsLater rest.entry next.1) }
     {
         let verb = match self.verb(line) {
             Ok(verb) => verb,
-            Err(kind) => return Err(kind.at(line.number)),
+            Err(kind) => return Err(kind.fault_of_line(line.number)),
         };
         match (verb, form_of(line.operand(2))) {
             (Verb::Image, Some(form)) => self.image(line, form, rest),
             _ => match self.other_statement(verb, line) {
                 Ok(reader) => Ok((reader, rest)),
-                Err(kind) => Err(kind.at(line.number)),
+                Err(kind) => Err(kind.fault_of_line(line.number)),
             },
         }
     }
@@ -257,12 +257,12 @@ impl Reader {
         ensures stands { (all : List ScriptStatement)
             → HasReadUpTo all self.so_far (remaining_statements false
             (record { number = rest.entry.line_count; text = text.now } ∷ lines_left rest.entry))
-            → HasKept all result }
+            → HasReadStatements all result }
         ensures later { IfOk result (λ next. IsLater rest.entry next.1) }
     {
         let line = match WordedLine::new(self.alloc, rest.line_count, text) {
             Ok(line) => line,
-            Err(want) => return Err(ScriptKind::Memory(want).at(rest.line_count)),
+            Err(want) => return Err(ScriptKind::Memory(want).fault_of_line(rest.line_count)),
         };
         if line.words.is_empty() {
             return Ok((self, rest));

@@ -164,7 +164,8 @@ fn faults_of_bodies(rt: HostRuntime) {
         &rt,
         rt.alloc(),
         &[
-            // A bad byte of a body comes before all else of the body, and behind what is wrong with the image's line.
+            // A bad byte of a body comes before all else of the body, and behind what is wrong with
+            // the image's line.
             (
                 b"machine 0\nimage x hex\nzz\n\xC8\nend\n",
                 4,

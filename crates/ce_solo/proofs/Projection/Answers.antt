@@ -1,4 +1,5 @@
--- What a cube's call is answered, by how the machine keeps the cube: the same, with the machine's numbers and names.
+-- What a cube's call is answered, by how the machine keeps the cube: the same, with the machine's
+-- numbers and names.
 use Rattle.std.proofs.Common.{◌≡◌, ℕ, zero, suc, ◌+◌, ◌^◌, ◌<◌, Bool, true, false, not, ◌&&◌, ◌||◌, ◌==◌, if◌then◌else◌, List, [], ◌∷◌, map, find, Option, Some, None, option_map, refl, ap, ap₂, sym, ◌∙◌, inl, inr, arith}
 use Rattle.std.specs.List.{list_any, list_all, range_with_len}
 use Rattle.ce_model.specs.declared.topology.TheConstants.{HOST}
@@ -8,7 +9,7 @@ use Rattle.ce_model.specs.declared.entry.What.TheVariants.{Look, HostTake, Send,
 use Rattle.ce_model.specs.Parcels.{Item, start, mail, kill, is_eligible}
 use Rattle.ce_model.specs.Node.{Call, take_call, send_call, spawn_call, kill_call, note_call, arm_call, look_call, mail_call}
 use Rattle.ce_model.specs.Trace.{NodeRecord, Standing}
-use Rattle.ce_model.specs.Answers.{is_used_up, offer_of, is_among, kill_found, is_quiet_node, is_quiet, look_result_where, first_number, answer}
+use Rattle.ce_model.specs.Answers.{is_used_up, offer_of, is_among, kill_result, is_quiet_node, is_quiet, look_result_where, first_number, answer}
 use Rattle.ce_model.specs.Cube.{node_numbers}
 use Rattle.ce_model.specs.Subcubes.{node_of}
 use Rattle.ce_model.specs.Renaming.{CubeGrant, place_outward, block_outward, number_outward, renamed_targets, renamed_item, renamed_record, renamed_call_blocks}
@@ -58,7 +59,8 @@ module _ (rename : BlockId → BlockId) where
 
 -- ---- how the machine keeps a cube
 
--- the one is how a cube stands, and the other how the machine keeps it, with its numbers for the nodes and its names for blocks
+-- the one is how a cube stands, and the other how the machine keeps it, with its numbers for the
+-- nodes and its names for blocks
 pub record IsStandingOf (grant : CubeGrant) (there here : Standing) : Type 0 where
   pub nodes : (r : ℕ) → r < 2 ^ grant.dim → there.node_record (node_of grant.sub r) ≡ renamed_record (block_outward grant) (here.node_record r)
   pub host : (there.node_record HOST).waiting_items ≡ map (renamed_item (block_outward grant)) (here.node_record HOST).waiting_items
@@ -66,7 +68,8 @@ pub record IsStandingOf (grant : CubeGrant) (there here : Standing) : Type 0 whe
   pub made_dispatches : there.made_dispatches ≡ here.made_dispatches
   pub parcel_count : there.parcel_count ≡ here.parcel_count
 
--- a call names places and blocks of a cube of this dimension alone, and an actor that is no node takes no work
+-- a call names places and blocks of a cube of this dimension alone, and an actor that is no node
+-- takes no work
 abbrev pub IsCallIn : ℕ → Call → Type 0
 IsCallIn d (spawn_call pid image to) = to.node < 2 ^ d
 IsCallIn d (kill_call pid to) = to.node < 2 ^ d
@@ -118,7 +121,7 @@ module _ (dim : ℕ) (grant : CubeGrant) (of : IsPlaced dim grant) (there here :
   answer-outward n (spawn_call pid image to) num in_cube =
       ap (λ (kept : NodeRecord). Spawn pid image (place_outward grant.sub to) (not (is_among to.pid kept.spawned_ids))) (record-outward to.node in_cube)
   answer-outward n (kill_call pid to) num in_cube =
-      ap (λ (kept : NodeRecord). Kill pid (place_outward grant.sub to) (kill_found kept to.pid)) (record-outward to.node in_cube)
+      ap (λ (kept : NodeRecord). Kill pid (place_outward grant.sub to) (kill_result kept to.pid)) (record-outward to.node in_cube)
   answer-outward n (note_call pid word) num in_cube = refl
   answer-outward n (arm_call count) num in_cube = refl
   answer-outward n look_call num in_cube = ap₂ (λ quiet used. Look (look_result_where quiet used)) quiet-outward used-outward

@@ -1,4 +1,5 @@
--- The call that an actor of a sound cube makes names places and blocks of the cube alone, and so does its entry.
+-- The call that an actor of a sound cube makes names places and blocks of the cube alone, and so
+-- does its entry.
 use Rattle.std.proofs.Common.{◌≡◌, ℕ, ◌^◌, ◌<◌, Bool, true, false, ◌&&◌, ◌||◌, nat_lt, if◌then◌else◌, List, [], ◌∷◌, map, length, slice_get, Option, Some, None, option_map, option_and_then, refl, ap, ◌∙◌, subst, inl, inr, arith}
 use Rattle.std.specs.List.{AllByRecursion}
 use Rattle.std.proofs.lemmas.Bool.{and_parts, or_cases}
@@ -7,12 +8,12 @@ use Rattle.ce_model.specs.declared.topology.BlockId.{BlockId}
 use Rattle.ce_model.specs.Node.{Node, Call, send_call, spawn_call, kill_call, arm_call, look_call, mail_call, is_place, is_host_place}
 use Rattle.ce_model.specs.Kernel.{is_target}
 use Rattle.ce_model.specs.Answers.{answer}
-use Rattle.ce_model.specs.Cube.{Cube, CubeState, IsCube, HostCall, send_bytes, start_image, end_process, allow, look_round, take_message, host_call, node_numbers}
+use Rattle.ce_model.specs.Cube.{Cube, CubeState, IsCube, Wish, send_wish, spawn_wish, kill_wish, arm_wish, look_wish, mail_wish, call_of_wish, node_numbers}
 use Rattle.ce_model.specs.Saying.{says}
 use Rattle.ce_model.specs.Owners.{IsBlockOf}
 use Rattle.ce_model.specs.Sound.{IsSound}
 use Rattle.ce_solo.proofs.Counting.{count, count-nil, count-cons, hit, sum_run-part}
-use Rattle.ce_solo.proofs.Totals.{total-is, at_node-is, at_node}
+use Rattle.ce_solo.proofs.Totals.{total-is, count_at_node-is, count_at_node}
 use Rattle.ce_solo.proofs.Words.{HasMadeCall}
 use Rattle.ce_solo.proofs.Sending.{place_parts, is_host}
 use Rattle.ce_solo.proofs.Room.{held_blocks}
@@ -56,7 +57,7 @@ module _ (cube : Cube) (s : CubeState) (of : IsCube cube) (sound : IsSound cube 
       both_all (λ place. IsNumber cube.dim place.node) (IsBlockOf cube.dim) to
       (targets_numbers (says (s.node r)).node cube.dim to (said.became.dim ∙ (sound.nodes r below).dim) said.of_node)
       (held_blocks cube s (map (λ target. target.1) to) sound
-      (λ id. omega (arith, said.became.blocks id, count-nil id, total-is id cube.dim s, at_node-is id s r, sum_run-part (at_node id s) r 0 (2 ^ cube.dim) (omega arith) (omega arith))))
+      (λ id. omega (arith, said.became.blocks id, count-nil id, total-is id cube.dim s, count_at_node-is id s r, sum_run-part (count_at_node id s) r 0 (2 ^ cube.dim) (omega arith) (omega arith))))
   node-within r (spawn_call pid image to) below said =
       (place_parts cube.dim to (subst (λ dim. is_place dim to ≡ true) (said.became.dim ∙ (sound.nodes r below).dim) said.of_node.1)).0
   node-within r (kill_call pid to) below said =
@@ -83,27 +84,27 @@ module _ (cube : Cube) (s : CubeState) (of : IsCube cube) (sound : IsSound cube 
   by_place true x call e = (refl, e)
   by_place false x call e = absurd (cc)
 
-  host-within : (wish : HostCall) (call : Call) → host_call cube s.hoststore wish ≡ Some call → IsCallWithin cube.dim call
-  host-within (send_bytes to bytes) call e =
+  host-within : (wish : Wish) (call : Call) → call_of_wish cube s.hoststore wish ≡ Some call → IsCallWithin cube.dim call
+  host-within (send_wish to bytes) call e =
       let parts = by_place (is_place cube.dim to) _ call e in sends-within to bytes call (slice_get s.hoststore 0) refl parts.0 parts.1
-  host-within (start_image image to) call e =
+  host-within (spawn_wish image to) call e =
       let parts = by_place (is_place cube.dim to && nat_lt image (length cube.images)) _ call e in
       within_of (spawn_call 0 image to) call parts.1 (place_parts cube.dim to (and_parts (is_place cube.dim to) _ parts.0).0).0
-  host-within (end_process to) call e =
+  host-within (kill_wish to) call e =
       let parts = by_place (is_place cube.dim to) _ call e in within_of (kill_call 0 to) call parts.1 (place_parts cube.dim to parts.0).0
-  host-within (allow count) call e = within_of (arm_call count) call e tt
-  host-within look_round call e = within_of look_call call e tt
-  host-within take_message call e = within_of mail_call call e tt
+  host-within (arm_wish count) call e = within_of (arm_call count) call e tt
+  host-within look_wish call e = within_of look_call call e tt
+  host-within mail_wish call e = within_of mail_call call e tt
 
-  asked-within : (wish : Option HostCall) (call : Call) → option_and_then (host_call cube s.hoststore) wish ≡ Some call → IsCallWithin cube.dim call
+  asked-within : (wish : Option Wish) (call : Call) → option_and_then (call_of_wish cube s.hoststore) wish ≡ Some call → IsCallWithin cube.dim call
   asked-within None call e = absurd (cc)
   asked-within (Some wish) call e = host-within wish call e
 
-  pub made-within : (actor : ℕ) (wish : Option HostCall) (call : Call) → IsMadeCall cube s actor wish call → IsCallWithin cube.dim call
+  pub made-within : (actor : ℕ) (wish : Option Wish) (call : Call) → IsMadeCall cube s actor wish call → IsCallWithin cube.dim call
   made-within actor wish call (by_host is e) = asked-within wish call e
   made-within actor wish call (by_node below e) = node-within actor call below (made-leaves cube s actor call of below sound e)
 
-  pub made-number : (actor : ℕ) (wish : Option HostCall) (call : Call) → IsMadeCall cube s actor wish call → IsNumber cube.dim actor
+  pub made-number : (actor : ℕ) (wish : Option Wish) (call : Call) → IsMadeCall cube s actor wish call → IsNumber cube.dim actor
   made-number actor wish call (by_host is e) = inr is
   made-number actor wish call (by_node below e) = inl below
 

@@ -1,4 +1,5 @@
--- What the machine keeps for a cube behind an entry of the cube is what the entry leaves of the cube, with the machine's numbers and names.
+-- What the machine keeps for a cube behind an entry of the cube is what the entry leaves of the
+-- cube, with the machine's numbers and names.
 use Rattle.std.proofs.Common.{◌≡◌, ℕ, ◌+◌, ◌≤◌, Bool, true, false, not, ◌==◌, if◌then◌else◌, List, [], ◌∷◌, ◌++◌, map, filter, count_by, length, Option, Some, None, refl, ap, ap₂, sym, ◌∙◌, inl, inr, arith, append-nil}
 use Rattle.std.specs.List.{AllByRecursion}
 use Rattle.std.proofs.lemmas.Bool.{cases_Bool}
@@ -8,7 +9,7 @@ use Rattle.ce_model.specs.declared.topology.BlockId.{BlockId}
 use Rattle.ce_model.specs.declared.entry.Entry.{Entry}
 use Rattle.ce_model.specs.declared.entry.What.{What}
 use Rattle.ce_model.specs.declared.entry.What.TheVariants.{Send, Spawn, Kill}
-use Rattle.ce_model.specs.declared.entry.KillFound.TheVariants.{Killed, Unused, Already}
+use Rattle.ce_model.specs.declared.entry.KillResult.TheVariants.{Killed, Unused, Already}
 use Rattle.ce_model.specs.declared.entry.TakeResult.{TakeResult}
 use Rattle.ce_model.specs.declared.entry.TakeResult.TheVariants as take_result
 use Rattle.ce_model.specs.Lists.{without_first}
@@ -16,11 +17,11 @@ use Rattle.ce_model.specs.Parcels.{Parcel, Item, start, mail, kill, is_named_by,
 use Rattle.ce_model.specs.Trace.{NodeRecord, Mark, items_to, starts_in, kills_in, mails_in, taken_result, start_ids_in, kill_ids_in, sent_parcels, allowed_dispatches_after, made_dispatches_after, mark_after}
 use Rattle.ce_model.specs.Owners.{IsBlockOf}
 use Rattle.ce_model.specs.Renaming.{CubeGrant, place_outward, block_outward, number_outward, renamed_targets, renamed_item, renamed_record}
-use Rattle.ce_model.specs.Machine.{item_inward, without_taken, waiting_items_after, record_by}
+use Rattle.ce_model.specs.Machine.{item_inward, without_taken_item, waiting_items_after, record_after_entry}
 use Rattle.ce_model.proofs.OneMore.{taken_for}
-use Rattle.ce_solo.proofs.Lists.{appended, appended-is, filter-all, none-from_count, count_by-cons, one_if-true, one_if-false}
+use Rattle.ce_solo.proofs.Lists.{with_appended, with_appended-is, filter-all, none-from_count, count_by-cons, one_if-true, one_if-false}
 use Rattle.ce_solo.proofs.Entries.{waiting_after}
-use Rattle.ce_solo.proofs.Entries as steps
+use Rattle.ce_solo.proofs.Entries as entry_states
 use Rattle.ce_solo.proofs.Projection.Numbers.{IsPlaced, IsNumber, IsWhatOf, what_outward, entry_outward, out_test, place_in_out}
 
 -- ---- what an entry takes and counts has no places and blocks
@@ -182,18 +183,18 @@ module _ (dim : ℕ) (grant : CubeGrant) (of : IsPlaced dim grant) (entry : Entr
   own_test n of_n = out_test dim grant of entry.actor n actor of_n
 
   by_own : (b : Bool) (taken : Option TakeResult) (items : List Item)
-      → (if b then without_taken taken items else items) ≡ without_taken (if b then taken else None) items
+      → (if b then without_taken_item taken items else items) ≡ without_taken_item (if b then taken else None) items
   by_own true taken items = refl
   by_own false taken items = refl
 
   waiting_by_taken : (taken : Option TakeResult) (sent waiting : List Item)
       → ((given : TakeResult) → taken ≡ Some given → (count_by (is_named_by given) waiting ≤ 1) × (sent ≡ []))
-      → without_taken taken (outward_all grant waiting) ++ outward_all grant sent ≡ outward_all grant (waiting_after taken sent waiting)
+      → without_taken_item taken (outward_all grant waiting) ++ outward_all grant sent ≡ outward_all grant (waiting_after taken sent waiting)
   waiting_by_taken None sent waiting known =
-      sym (map-append (renamed_item (block_outward grant)) waiting sent) ∙ ap (outward_all grant) (appended-is waiting sent)
+      sym (map-append (renamed_item (block_outward grant)) waiting sent) ∙ ap (outward_all grant) (with_appended-is waiting sent)
   waiting_by_taken (Some given) sent waiting known =
-      ap (λ sent. without_taken (Some given) (outward_all grant waiting) ++ outward_all grant sent) (known given refl).1
-      ∙ append-nil (without_taken (Some given) (outward_all grant waiting)) ∙ first_out (block_outward grant) given waiting (known given refl).0
+      ap (λ sent. without_taken_item (Some given) (outward_all grant waiting) ++ outward_all grant sent) (known given refl).1
+      ∙ append-nil (without_taken_item (Some given) (outward_all grant waiting)) ∙ first_out (block_outward grant) given waiting (known given refl).0
 
   -- what an entry takes for a node is one item that waits there, and then it sends nothing there
   abbrev pub IsOneTaken : ℕ → List Item → Type 0
@@ -203,9 +204,9 @@ module _ (dim : ℕ) (grant : CubeGrant) (of : IsPlaced dim grant) (entry : Entr
       → waiting_items_after grant.sub (entry_outward grant entry) (number_outward grant.sub n) (outward_all grant waiting)
       ≡ outward_all grant (waiting_after (taken_for n entry) (items_to n entry) waiting)
   waiting-behind n waiting of_n one =
-      ap₂ (λ (b : Bool) sent. (if b then without_taken (taken_result (what_outward grant entry.what)) (outward_all grant waiting) else outward_all grant waiting) ++ sent)
+      ap₂ (λ (b : Bool) sent. (if b then without_taken_item (taken_result (what_outward grant entry.what)) (outward_all grant waiting) else outward_all grant waiting) ++ sent)
       (own_test n of_n) (items-outward dim grant of n entry of_n actor is)
-      ∙ ap (λ taken. (if entry.actor == n then without_taken taken (outward_all grant waiting) else outward_all grant waiting) ++ outward_all grant (items_to n entry))
+      ∙ ap (λ taken. (if entry.actor == n then without_taken_item taken (outward_all grant waiting) else outward_all grant waiting) ++ outward_all grant (items_to n entry))
       (taken-outward grant entry.what)
       ∙ ap (λ items. items ++ outward_all grant (items_to n entry)) (by_own (entry.actor == n) (taken_result entry.what) (outward_all grant waiting))
       ∙ waiting_by_taken (taken_for n entry) (items_to n entry) waiting one
@@ -214,13 +215,13 @@ module _ (dim : ℕ) (grant : CubeGrant) (of : IsPlaced dim grant) (entry : Entr
   record_of waiting spawned killed mark = record { waiting_items = waiting; spawned_ids = spawned; killed_ids = killed; mark = mark }
 
   pub record-behind : (n : ℕ) (kept : NodeRecord) → IsNumber grant.dim n → IsOneTaken n kept.waiting_items
-      → record_by grant.sub (entry_outward grant entry) (number_outward grant.sub n) (renamed_record (block_outward grant) kept)
-      ≡ renamed_record (block_outward grant) (steps.record_by (entry.actor == n) n entry kept)
+      → record_after_entry grant.sub (entry_outward grant entry) (number_outward grant.sub n) (renamed_record (block_outward grant) kept)
+      ≡ renamed_record (block_outward grant) (entry_states.cube_record_after (entry.actor == n) n entry kept)
   record-behind n kept of_n one =
-      let spawned : kept.spawned_ids ++ start_ids_in (number_outward grant.sub n) (what_outward grant entry.what) ≡ appended kept.spawned_ids (start_ids_in n entry.what) =
-      ap (λ items. kept.spawned_ids ++ map item_id items) (starts-outward dim grant of n entry.what of_n is) ∙ appended-is kept.spawned_ids (start_ids_in n entry.what) in
-      let killed : kept.killed_ids ++ kill_ids_in (number_outward grant.sub n) (what_outward grant entry.what) ≡ appended kept.killed_ids (kill_ids_in n entry.what) =
-      ap (λ items. kept.killed_ids ++ map item_id items) (kills-outward dim grant of n entry.what of_n is) ∙ appended-is kept.killed_ids (kill_ids_in n entry.what) in
+      let spawned : kept.spawned_ids ++ start_ids_in (number_outward grant.sub n) (what_outward grant entry.what) ≡ with_appended kept.spawned_ids (start_ids_in n entry.what) =
+      ap (λ items. kept.spawned_ids ++ map item_id items) (starts-outward dim grant of n entry.what of_n is) ∙ with_appended-is kept.spawned_ids (start_ids_in n entry.what) in
+      let killed : kept.killed_ids ++ kill_ids_in (number_outward grant.sub n) (what_outward grant entry.what) ≡ with_appended kept.killed_ids (kill_ids_in n entry.what) =
+      ap (λ items. kept.killed_ids ++ map item_id items) (kills-outward dim grant of n entry.what of_n is) ∙ with_appended-is kept.killed_ids (kill_ids_in n entry.what) in
       let marks : (if (entry_outward grant entry).actor == number_outward grant.sub n then mark_after kept.mark (what_outward grant entry.what) else kept.mark)
       ≡ (if entry.actor == n then mark_after kept.mark entry.what else kept.mark) =
       ap₂ (λ (b : Bool) mark. if b then mark else kept.mark) (own_test n of_n) (marked-outward grant kept.mark entry.what) in

@@ -1,4 +1,5 @@
--- What holds of a lawful history and of the state that it leaves, and what an entry has to do so that it holds on.
+-- What holds of a lawful history and of the state that it leaves, and what an entry has to do so
+-- that it holds on.
 use Rattle.std.proofs.Common.{◌≡◌, ◌⊎◌, ℕ, ◌^◌, ◌<◌, Bool, true, false, ◌&&◌, ◌||◌, ◌==◌, List, [], ◌∷◌, ◌++◌, map, Option, Some, None, refl, ap, sym, ◌∙◌, subst, inl, inr}
 use Rattle.std.specs.Prelude.{is_some}
 use Rattle.std.proofs.lemmas.Bool.{cases_Bool, both_ways, eq-eqb, eqb-true, ne_eqb, or_left}
@@ -30,7 +31,8 @@ pub record IsKept (node_record : ℕ → NodeRecord) (cube : HeldCube) (here : S
 abbrev pub left : MachineParts → CubeGrant → List Entry → CubeState
 left parts grant behind = state_after_trace (cube_of parts.images grant) (opening (cube_of parts.images grant)) (trace_behind grant behind)
 
--- a cube that is held stands in the history where its number says, and up to its drain the machine keeps for it how it stands
+-- a cube that is held stands in the history where its number says, and up to its drain the machine
+-- keeps for it how it stands
 pub record IsHeld (parts : MachineParts) (state : MachineState) (h : List Entry) (cube : HeldCube) : Type 0 where
   pub placed : IsPlaced parts.dim cube.grant
   pub behind : List Entry
@@ -67,7 +69,8 @@ pub record IsProjected (parts : MachineParts) (state : MachineState) (h : List E
       → state.node_record node ≡ blank_record
   pub views : (number : ℕ) (grant : CubeGrant) (behind : List Entry) → history_behind_grant h number ≡ Some (grant, behind) → IsViewed parts state number grant behind
 
--- what an entry does to the state: the cubes of other users stay, and its own user's is held as it should be
+-- what an entry does to the state: the cubes of other users stay, and its own user's is held as it
+-- should be
 pub record IsNextState (parts : MachineParts) (state : MachineState) (h : List Entry) (entry : Entry) (state' : MachineState) : Type 0 where
   pub count : state'.grant_count ≡ granted (h ++ entry ∷ [])
   pub others : (user : ℕ) → (entry.user == user) ≡ false → cube_held_by state' user ≡ cube_held_by state user

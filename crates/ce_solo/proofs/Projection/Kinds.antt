@@ -4,15 +4,15 @@ use Rattle.std.specs.Prelude.{is_some}
 use Rattle.std.proofs.lemmas.Bool.{both_ways, eq-eqb, eqb-true, or_right}
 use Rattle.ce_model.specs.declared.topology.Subcube.{Subcube}
 use Rattle.ce_model.specs.declared.entry.Entry.{Entry}
-use Rattle.ce_model.specs.declared.entry.What.{What}
 use Rattle.ce_model.specs.declared.entry.What.TheVariants.{Getcube, Drain, Freecube}
 use Rattle.ce_model.specs.Trace.{NodeRecord, blank_record}
 use Rattle.ce_model.specs.Answers.{recorded_call}
 use Rattle.ce_model.specs.Cube.{CubeState, opening}
-use Rattle.ce_model.specs.Subcubes.{node_of, is_inside, first_free}
+use Rattle.ce_model.specs.Subcubes.{node_of, is_inside, first_free_subcube}
 use Rattle.ce_model.specs.Renaming.{CubeGrant}
 use Rattle.ce_model.specs.Views.{entry_grant, is_drain, history_behind_grant}
-use Rattle.ce_model.specs.Machine.{MachineParts, IsMachine, HeldCube, MachineState, cube_held_by, is_free, cube_of, with_grant, with_drained, without_cube}
+use Rattle.ce_model.specs.Machine.{MachineParts, IsMachine, HeldCube, MachineState, cube_held_by, is_free, cube_of, with_grant, with_drained_cube, without_cube}
+use Rattle.ce_model.specs.Literals.{entry_of}
 use Rattle.ce_model.proofs.Subcubes.{all_nodes-at, all_nodes-inside, first_free-subcube, first_free-all_free}
 use Rattle.ce_solo.proofs.Stands.{state_after_trace-nil}
 use Rattle.ce_solo.proofs.Projection.Numbers.{IsPlaced}
@@ -23,10 +23,6 @@ use Rattle.ce_solo.proofs.Projection.Invariant.{IsKept, IsHeld, IsByEntries, IsV
 pub and_false : (b c : Bool) → c ≡ false → (b && c) ≡ false
 and_false true c e = e
 and_false false c e = refl
-
--- an entry of these
-abbrev pub entry_of : ℕ → ℕ → What → Entry
-entry_of user actor what = record { user = user; actor = actor; what = what }
 
 -- a cube that is drained, and what is kept for a node of it
 abbrev pub drained_cube : HeldCube → HeldCube
@@ -86,7 +82,7 @@ module _ (parts : MachineParts) (state : MachineState) (h : List Entry) (before 
   -- ---- a cube is granted
 
   module _ (machine : IsMachine parts) (user actor d : ℕ) (sub : Subcube) (within : user < parts.users) (none : cube_held_by state user ≡ None)
-      (free : first_free (is_free state) parts.dim d ≡ Some sub) where
+      (free : first_free_subcube (is_free state) parts.dim d ≡ Some sub) where
     abbrev grant_now : CubeGrant
     grant_now = record { user = user; dim = d; sub = sub }
 
@@ -153,16 +149,16 @@ module _ (parts : MachineParts) (state : MachineState) (h : List Entry) (before 
     abbrev drain : Entry
     drain = entry_of user actor Drain
 
-    drained_held : cube_held_by (with_drained user state) user ≡ Some (drained_cube cube)
+    drained_held : cube_held_by (with_drained_cube user state) user ≡ Some (drained_cube cube)
     drained_held = held-own user drained_cube (λ cube. refl) drained_record state cube holds
 
-    is_drained : (cube' : HeldCube) → cube_held_by (with_drained user state) user ≡ Some cube' → drained_cube cube ≡ cube'
+    is_drained : (cube' : HeldCube) → cube_held_by (with_drained_cube user state) user ≡ Some cube' → drained_cube cube ≡ cube'
     is_drained cube' held = let same : Some (drained_cube cube) ≡ Some cube' = sym drained_held ∙ held in cc
 
     over-now : (grant : CubeGrant) (behind : List Entry) → (user == grant.user) ≡ true → is_over grant (behind ++ drain ∷ []) ≡ true
     over-now grant behind is = over-more grant behind drain ∙ or_right _ _ (ap (λ b. b && true) is)
 
-    held-drained : IsHeld parts (with_drained user state) (h ++ drain ∷ []) (drained_cube cube)
+    held-drained : IsHeld parts (with_drained_cube user state) (h ++ drain ∷ []) (drained_cube cube)
     held-drained =
         let was = before.held user cube holds in
         record {
@@ -173,12 +169,12 @@ module _ (parts : MachineParts) (state : MachineState) (h : List Entry) (before 
           kept = λ goes. absurd (cc);
         }
 
-    pub drain-entry : IsNextState parts state h drain (with_drained user state)
+    pub drain-entry : IsNextState parts state h drain (with_drained_cube user state)
     drain-entry = record {
       count = before.count ∙ sym (granted-same h drain refl);
       others = λ other differ. held-other user drained_cube (λ cube. refl) drained_record state other differ;
       records = λ node outside. record-other drained_record node (state.node_record node) (cube_held_by state user) outside;
-      own = λ cube' held. subst (IsHeld parts (with_drained user state) (h ++ drain ∷ [])) (is_drained cube' held) held-drained;
+      own = λ cube' held. subst (IsHeld parts (with_drained_cube user state) (h ++ drain ∷ [])) (is_drained cube' held) held-drained;
       apart = λ cube' held other cube'' differ held''.
           subst (λ (c : HeldCube). AreApart c.grant.sub cube''.grant.sub) (is_drained cube' held) (before.apart user other cube cube'' differ holds held'');
       blank = λ cube' held node inside.

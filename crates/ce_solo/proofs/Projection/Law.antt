@@ -10,10 +10,10 @@ use Rattle.ce_model.specs.Node.{Call}
 use Rattle.ce_model.specs.Trace.{NodeRecord}
 use Rattle.ce_model.specs.Answers.{answer, recorded_call}
 use Rattle.ce_model.specs.Cube.{opening, state_after_trace, IsNext, IsAlone}
-use Rattle.ce_model.specs.Subcubes.{node_of, is_inside, first_free}
+use Rattle.ce_model.specs.Subcubes.{node_of, is_inside, first_free_subcube}
 use Rattle.ce_model.specs.Renaming.{CubeGrant}
 use Rattle.ce_model.specs.Views.{request_grant, trace_behind, history_behind_grant, view}
-use Rattle.ce_model.specs.Machine.{MachineParts, IsMachine, HeldCube, MachineState, machine_opening, cube_held_by, is_free, nodes_of, cube_standing, cube_of, record_by, cube_after_entry, with_cube, with_grant, with_drained, without_cube, state_after_entry, state_after_call, after, Request, getcube, peek, drain, freecube, in_cube, with_places_outward, what_of_request, IsCallOf, IsFitting, IsLawfulEntry, IsLawful}
+use Rattle.ce_model.specs.Machine.{MachineParts, IsMachine, HeldCube, MachineState, machine_opening, cube_held_by, is_free, nodes_of, cube_standing, cube_of, record_after_entry, cube_after_entry, with_cube, with_grant, with_drained_cube, without_cube, state_after_entry, state_after_call, after, Request, getcube, peek, drain, freecube, cube_request, with_places_outward, what_of_request, IsCallOf, IsFitting, IsLawfulEntry, IsLawful}
 use Rattle.ce_model.proofs.Subcubes.{is_inside-node_of}
 use Rattle.ce_model.proofs.Walked.{kept_by_each, each-more}
 use Rattle.ce_model.proofs.AloneByEntries.{alone_by_entries}
@@ -22,7 +22,8 @@ use Rattle.ce_solo.proofs.Projection.Views.{granted-same, found-more, is_over, o
 use Rattle.ce_solo.proofs.Projection.Held.{held-user, held-own, held-other, record-own, record-other}
 use Rattle.ce_solo.proofs.Projection.Invariant.{IsKept, IsHeld, IsByEntries, IsViewed, AreApart, IsProjected, IsNextState, projected-entry, or_false}
 use Rattle.ce_solo.proofs.Projection.Own.{IsOwnEntry, own-entry, kept-behind, trace-behind}
-use Rattle.ce_solo.proofs.Projection.Kinds.{and_false, entry_of, held-grant, idle-entry, grant-entry, drain-entry, free-entry}
+use Rattle.ce_model.specs.Literals.{entry_of}
+use Rattle.ce_solo.proofs.Projection.Kinds.{and_false, held-grant, idle-entry, grant-entry, drain-entry, free-entry}
 
 no_grant : (user : ℕ) (what : What) (call : Call) → recorded_call what ≡ Some call → request_grant user what ≡ None
 no_grant user (Getcube dim None) call e = absurd (cc)
@@ -46,7 +47,7 @@ module _ (parts : MachineParts) (machine : IsMachine parts) (state : MachineStat
   change cube = cube_after_entry entry cube
 
   abbrev change_record : HeldCube → ℕ → NodeRecord → NodeRecord
-  change_record cube = record_by cube.grant.sub entry
+  change_record cube = record_after_entry cube.grant.sub entry
 
   abbrev now : MachineState
   now = with_cube entry.user change change_record state
@@ -128,7 +129,7 @@ module _ (parts : MachineParts) (machine : IsMachine parts) (h : List Entry) (be
   by_what entry what e steps =
       let same : what ≡ entry.what = cc in subst (λ what. IsNextStateBehind parts h (entry_of entry.user entry.actor what)) same steps
 
-  by_grant : (entry : Entry) (d : ℕ) (found : Option Subcube) → first_free (is_free (after h)) parts.dim d ≡ found → entry.user < parts.users
+  by_grant : (entry : Entry) (d : ℕ) (found : Option Subcube) → first_free_subcube (is_free (after h)) parts.dim d ≡ found → entry.user < parts.users
       → cube_held_by (after h) entry.user ≡ None → Some (Getcube d found) ≡ Some entry.what → IsNextStateBehind parts h entry
   by_grant entry d None is within none e =
       by_what entry (Getcube d None) e
@@ -144,7 +145,7 @@ module _ (parts : MachineParts) (machine : IsMachine parts) (h : List Entry) (be
   by_drain entry None is some e = absurd some
   by_drain entry (Some cube) is some e =
       by_what entry Drain e
-      (by_step (entry_of entry.user entry.actor Drain) (with_drained entry.user (after h)) refl (drain-entry parts (after h) h before entry.user entry.actor cube is))
+      (by_step (entry_of entry.user entry.actor Drain) (with_drained_cube entry.user (after h)) refl (drain-entry parts (after h) h before entry.user entry.actor cube is))
 
   by_free : (entry : Entry) (held : Option HeldCube) → cube_held_by (after h) entry.user ≡ held → IsSomeAnd held (λ cube. cube.is_drained ≡ true)
       → Some Freecube ≡ Some entry.what → IsNextStateBehind parts h entry
@@ -173,20 +174,20 @@ module _ (parts : MachineParts) (machine : IsMachine parts) (h : List Entry) (be
   by_call entry call None is some e = absurd some
   by_call entry call (Some cube) is fits e =
       let own = own-called entry call cube is fits e in
-      by_step entry (with_cube entry.user (cube_after_entry entry) (λ cube. record_by cube.grant.sub entry) (after h))
+      by_step entry (with_cube entry.user (cube_after_entry entry) (λ cube. record_after_entry cube.grant.sub entry) (after h))
       (ap (λ call. state_after_call call entry (after h)) own.called)
       (call-entry parts machine (after h) h before entry cube is fits.not_drained own)
 
   by_request : (entry : Entry) (request : Request) → IsFitting parts h entry.user entry.actor request → what_of_request parts (after h) entry.user entry.actor request ≡ Some entry.what
       → IsNextStateBehind parts h entry
-  by_request entry (getcube d) fits e = by_grant entry d (first_free (is_free (after h)) parts.dim d) refl fits.0 fits.1.2 e
+  by_request entry (getcube d) fits e = by_grant entry d (first_free_subcube (is_free (after h)) parts.dim d) refl fits.0 fits.1.2 e
   by_request entry peek fits e =
       by_what entry Peek e
       (by_step (entry_of entry.user entry.actor Peek) (after h) refl
       (idle-entry parts (after h) h before (entry_of entry.user entry.actor Peek) refl refl refl))
   by_request entry drain fits e = by_drain entry (cube_held_by (after h) entry.user) refl fits.1.1 e
   by_request entry freecube fits e = by_free entry (cube_held_by (after h) entry.user) refl fits.1.1 e
-  by_request entry (in_cube call) fits e = by_call entry call (cube_held_by (after h) entry.user) refl fits.1 e
+  by_request entry (cube_request call) fits e = by_call entry call (cube_held_by (after h) entry.user) refl fits.1 e
 
   pub lawful-entry : (entry : Entry) → IsLawfulEntry parts h entry → IsNextStateBehind parts h entry
   lawful-entry entry lawful = by_request entry lawful.request lawful.fits lawful.answer

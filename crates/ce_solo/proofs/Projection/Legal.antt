@@ -1,11 +1,12 @@
--- What the law of projection says further: the view of each grant is legal, and the same where the same was asked.
+-- What the law of projection says further: the view of each grant is legal, and the same where the
+-- same was asked.
 use Rattle.std.proofs.Common.{◌≡◌, ℕ, List, Option, Some, None, IfSome, refl, ap, ap₂, sym, ◌∙◌}
 use Rattle.ce_model.specs.declared.entry.Entry.{Entry}
-use Rattle.ce_model.specs.Cube.{Cube, opening, solo, host_calls, actors, IsAlone}
+use Rattle.ce_model.specs.Cube.{Cube, opening, solo, host_wishes, actors, IsAlone}
 use Rattle.ce_model.specs.Renaming.{CubeGrant}
 use Rattle.ce_model.specs.Views.{history_behind_grant, view}
 use Rattle.ce_model.specs.Machine.{MachineParts, IsMachine, cube_of}
-use Rattle.ce_solo.specs.Laws.{IsLegalTrace, LawfulIsLegal, AreSame, AreViewsSame}
+use Rattle.ce_solo.specs.Laws.{IsLegalTrace, LawfulIsLegal, AreSame, ViewsAreSame}
 use Rattle.ce_solo.proofs.Fresh.{fresh_sound}
 use Rattle.ce_solo.proofs.Stands.{stands-front}
 use Rattle.ce_solo.proofs.Ordered.{in_order}
@@ -38,7 +39,7 @@ lawful_is_legal parts history number machine lawful =
 same_alone : (cube cube' : Cube) (t t' : List Entry) → IsAlone cube t → IsAlone cube' t' → AreSame cube cube' t t'
 same_alone cube cube' t t' alone alone' cubes calls order =
     let both : Some t ≡ Some t' =
-    sym alone ∙ ap₂ (λ calls order. solo cube (opening cube) calls order) calls order ∙ ap (λ cube. solo cube (opening cube) (host_calls t') (actors t')) cubes ∙ alone' in
+    sym alone ∙ ap₂ (λ calls order. solo cube (opening cube) calls order) calls order ∙ ap (λ cube. solo cube (opening cube) (host_wishes t') (actors t')) cubes ∙ alone' in
     cc
 
 found_same : (parts parts' : MachineParts) (history history' : List Entry) (number number' : ℕ) → IsProjectedHistory parts history → IsProjectedHistory parts' history'
@@ -51,7 +52,7 @@ found_same parts parts' history history' number number' all all' (Some found) (S
     same_alone (cube_of parts.images found.0) (cube_of parts'.images found'.0) (view history number) (view history' number')
     (found_alone parts history number all (Some found) is) (found_alone parts' history' number' all' (Some found') is')
 
-pub same_trace : AreViewsSame
+pub same_trace : ViewsAreSame
 same_trace parts parts' history history' number number' machine machine' lawful lawful' =
     found_same parts parts' history history' number number' (projected parts history machine lawful) (projected parts' history' machine' lawful')
     (history_behind_grant history number) (history_behind_grant history' number') refl refl

@@ -1,4 +1,5 @@
--- An entry of a cube that is held: it is the next of the cube's trace, and the machine keeps on what the cube becomes.
+-- An entry of a cube that is held: it is the next of the cube's trace, and the machine keeps on
+-- what the cube becomes.
 use Rattle.std.proofs.Common.{◌≡◌, ◌⊎◌, ℕ, ◌+◌, ◌^◌, ◌<◌, ◌≤◌, Bool, true, false, ◌==◌, if◌then◌else◌, List, [], ◌∷◌, ◌++◌, count_by, Option, Some, None, IsTrue, option_map, option_and_then, refl, ap, ap₂, sym, ◌∙◌, subst, inl, inr, arith}
 use Rattle.std.specs.List.{AllByRecursion}
 use Rattle.std.proofs.lemmas.Bool.{cases_Bool, eq-eqb, eqb-true}
@@ -11,12 +12,12 @@ use Rattle.ce_model.specs.Parcels.{Parcel, Item, start, mail, kill, is_named_by}
 use Rattle.ce_model.specs.Node.{Call}
 use Rattle.ce_model.specs.Trace.{standing, allowed_dispatches_after, made_dispatches_after, NodeRecord, Standing, items_to}
 use Rattle.ce_model.specs.Answers.{answer, recorded_call}
-use Rattle.ce_model.specs.Cube.{Cube, CubeState, IsCube, opening, state_after_trace, host_call_of, entry_host_call, actor_call, actor_entry, next_entry, node_numbers, HostCall, IsNext}
+use Rattle.ce_model.specs.Cube.{Cube, CubeState, IsCube, opening, state_after_trace, wish_of_call, entry_wish, actor_call, actor_entry, next_entry, node_numbers, Wish, IsNext}
 use Rattle.ce_model.specs.Sound.{IsSound, IsHostItem, is_start_of, is_kill_of}
 use Rattle.ce_model.specs.Subcubes.{relative_number, extract, node_of, is_inside}
 use Rattle.ce_model.specs.Renaming.{CubeGrant, block_outward, number_outward, renamed_record, renamed_call_blocks, entry_inward}
 use Rattle.ce_model.specs.Views.{trace_behind, view}
-use Rattle.ce_model.specs.Machine.{waiting_items_after, MachineParts, IsMachine, HeldCube, MachineState, host_record, cube_standing, nodes_of, record_by, cube_after_entry, with_places_outward, cube_of}
+use Rattle.ce_model.specs.Machine.{waiting_items_after, MachineParts, IsMachine, HeldCube, MachineState, host_record, cube_standing, nodes_of, record_after_entry, cube_after_entry, with_places_outward, cube_of}
 use Rattle.ce_model.proofs.Subcubes.{ones_of-bound, node_of-extract}
 use Rattle.ce_model.proofs.AloneByEntries.{call_of-answer}
 use Rattle.ce_model.proofs.OneMore.{taken_for}
@@ -104,15 +105,15 @@ kept-own : (dim : ℕ) (node_record node_record' : ℕ → NodeRecord) (cube : H
     (number : IsNumber cube.grant.dim entry.actor) (what : IsWhatOf cube.grant.dim entry.what)
     → ((n : ℕ) → IsNumber cube.grant.dim n → IsOneTaken dim cube.grant placed entry number what n (here.node_record n).waiting_items)
     → ((r : ℕ) → r < 2 ^ cube.grant.dim → node_record' (node_of cube.grant.sub r)
-    ≡ record_by cube.grant.sub (entry_outward cube.grant entry) (node_of cube.grant.sub r) (node_record (node_of cube.grant.sub r)))
+    ≡ record_after_entry cube.grant.sub (entry_outward cube.grant entry) (node_of cube.grant.sub r) (node_record (node_of cube.grant.sub r)))
     → IsKept node_record cube here → IsKept node_record' (cube_after_entry (entry_outward cube.grant entry) cube) (standing_after here entry)
 kept-own dim node_record node_record' cube here entry placed number what one changed kept =
     let grant = cube.grant in
     let out = entry_outward grant entry in
     record {
       nodes = λ r below.
-          changed r below ∙ ap (record_by grant.sub out (node_of grant.sub r)) (kept.nodes r below)
-          ∙ ap (λ n. record_by grant.sub out n (renamed_record (block_outward grant) (here.node_record r))) (sym (out_node dim grant placed r below))
+          changed r below ∙ ap (record_after_entry grant.sub out (node_of grant.sub r)) (kept.nodes r below)
+          ∙ ap (λ n. record_after_entry grant.sub out n (renamed_record (block_outward grant) (here.node_record r))) (sym (out_node dim grant placed r below))
           ∙ record-behind dim grant placed entry number what r (here.node_record r) (inl below) (one r (inl below));
       mail = ap (waiting_items_after grant.sub out HOST) kept.mail
           ∙ waiting-behind dim grant placed entry number what HOST (here.node_record HOST).waiting_items (inr refl) (one HOST (inr refl));
@@ -134,12 +135,12 @@ pub record IsOwnEntry (parts : MachineParts) (grant : CubeGrant) (t : List Entry
   pub called : recorded_call entry.what ≡ Some call
 
 asked_in_host : (cube : Cube) (o : CubeState) (t : List Entry) (actor : ℕ) (call : Call) → (actor == HOST) ≡ true
-    → entry_host_call (actor_entry cube o t actor call) ≡ host_call_of call
+    → entry_wish (actor_entry cube o t actor call) ≡ wish_of_call call
 asked_in_host cube o t actor call is =
-    ap (λ (b : Bool). if b then option_and_then host_call_of (recorded_call (actor_entry cube o t actor call).what) else None) is
-    ∙ ap (option_and_then host_call_of) (call_of-answer (node_numbers cube.dim) (standing o.standing t) actor call)
+    ap (λ (b : Bool). if b then option_and_then wish_of_call (recorded_call (actor_entry cube o t actor call).what) else None) is
+    ∙ ap (option_and_then wish_of_call) (call_of-answer (node_numbers cube.dim) (standing o.standing t) actor call)
 
-next_by_call : (cube : Cube) (o : CubeState) (t : List Entry) (actor : ℕ) (call : Call) → actor_call cube o t actor (host_call_of call) ≡ Some call
+next_by_call : (cube : Cube) (o : CubeState) (t : List Entry) (actor : ℕ) (call : Call) → actor_call cube o t actor (wish_of_call call) ≡ Some call
     → IsNext cube o t (actor_entry cube o t actor call)
 unfolding next_entry
 next_by_call cube o t actor call e =
@@ -147,10 +148,10 @@ next_by_call cube o t actor call e =
       | inl is ↦
           ap (λ wish. option_map (actor_entry cube o t actor) (actor_call cube o t actor wish)) (asked_in_host cube o t actor call is)
           ∙ ap (option_map (actor_entry cube o t actor)) e
-      | inr node ↦ next_of_node (entry_host_call (actor_entry cube o t actor call)) (host_call_of call) node ∙ ap (option_map (actor_entry cube o t actor)) e
+      | inr node ↦ next_of_node (entry_wish (actor_entry cube o t actor call)) (wish_of_call call) node ∙ ap (option_map (actor_entry cube o t actor)) e
     ]
   where
-    next_of_node : (x y : Option HostCall) → (actor == HOST) ≡ false
+    next_of_node : (x y : Option Wish) → (actor == HOST) ≡ false
         → option_map (actor_entry cube o t actor) (actor_call cube o t actor x) ≡ option_map (actor_entry cube o t actor) (actor_call cube o t actor y)
     next_of_node x y node = rw node refl
 
@@ -179,17 +180,17 @@ module _ (parts : MachineParts) (machine : IsMachine parts) (state : MachineStat
   stands = stands-each own (opening own) t (own_cube parts cube.grant machine was.placed) (fresh_sound own (own_cube parts cube.grant machine was.placed)) alone
 
   pub own-entry : (entry : Entry) (call : Call) → entry.user ≡ cube.grant.user → IsTrue (entry.actor == HOST) ⊎ IsTrue (is_inside cube.grant.sub entry.actor)
-      → actor_call own (opening own) (view h cube.number) (relative_number cube.grant.sub entry.actor) (host_call_of call) ≡ Some call
+      → actor_call own (opening own) (view h cube.number) (relative_number cube.grant.sub entry.actor) (wish_of_call call) ≡ Some call
       → answer (nodes_of cube.grant) (cube_standing state cube) entry.actor (with_places_outward cube.grant (renamed_call_blocks (block_outward cube.grant) call)) ≡ entry.what
       → IsOwnEntry parts cube.grant t entry
   own-entry entry call user inside called answered =
       let grant = cube.grant in
       let of = own_cube parts grant machine was.placed in
       let actor = relative_number grant.sub entry.actor in
-      let says = subst (λ t. actor_call own (opening own) t actor (host_call_of call) ≡ Some call) (view-is h cube.number grant was.behind was.found) called in
-      let by = made own s actor (host_call_of call) call says in
-      let number = made-number own s of stands.sound actor (host_call_of call) call by in
-      let within = made-within own s of stands.sound actor (host_call_of call) call by in
+      let says = subst (λ t. actor_call own (opening own) t actor (wish_of_call call) ≡ Some call) (view-is h cube.number grant was.behind was.found) called in
+      let by = made own s actor (wish_of_call call) call says in
+      let number = made-number own s of stands.sound actor (wish_of_call call) call by in
+      let within = made-within own s of stands.sound actor (wish_of_call call) call by in
       let back = actor_back parts.dim grant was.placed entry.actor inside in
       let inner = entry_in own s actor call in
       let what : entry.what ≡ what_outward grant inner.what =
@@ -218,13 +219,13 @@ module _ (parts : MachineParts) (machine : IsMachine parts) (state : MachineStat
   -- the machine keeps on what the cube becomes
   pub kept-behind : (entry : Entry) (node_record' : ℕ → NodeRecord) → (is : IsOwnEntry parts cube.grant t entry)
       → ((r : ℕ) → r < 2 ^ cube.grant.dim → node_record' (node_of cube.grant.sub r)
-      ≡ record_by cube.grant.sub entry (node_of cube.grant.sub r) (state.node_record (node_of cube.grant.sub r)))
+      ≡ record_after_entry cube.grant.sub entry (node_of cube.grant.sub r) (state.node_record (node_of cube.grant.sub r)))
       → IsKept node_record' (cube_after_entry entry cube) (state_after_trace own (opening own) (t ++ is.inner ∷ [])).standing
   kept-behind entry node_record' is changed =
       let grant = cube.grant in
       let e = entry_of-next own (opening own) t is.inner is.next in
       let now = kept-own parts.dim state.node_record node_record' cube s.standing is.inner was.placed is.number is.what (takes-one is.inner is.number is.what is.next)
-      (λ r below. changed r below ∙ ap (λ e. record_by grant.sub e (node_of grant.sub r) (state.node_record (node_of grant.sub r))) is.same) (was.kept goes) in
+      (λ r below. changed r below ∙ ap (λ e. record_after_entry grant.sub e (node_of grant.sub r) (state.node_record (node_of grant.sub r))) is.same) (was.kept goes) in
       subst (λ (now : CubeState). IsKept node_record' (cube_after_entry entry cube) now.standing) (sym (left-made own (opening own) t is.inner stands e))
       (subst (λ e. IsKept node_record' (cube_after_entry e cube) (standing_after s.standing is.inner)) (sym is.same) now)
 

@@ -1,4 +1,5 @@
--- What fits a lawful history fits still behind an entry of another user, and behind one of another actor that is not made alone.
+-- What fits a lawful history fits still behind an entry of another user, and behind one of another
+-- actor that is not made alone.
 use Rattle.std.proofs.Common.{◌≡◌, ◌⊎◌, ℕ, Bool, true, false, ◌&&◌, ◌==◌, if◌then◌else◌, List, [], ◌∷◌, ◌++◌, Option, Some, None, IsTrue, IsSomeAnd, option_map, refl, ap, sym, ◌∙◌, subst, inl, inr}
 use Rattle.std.specs.Prelude.{is_some}
 use Rattle.std.proofs.lemmas.Bool.{cases_Bool, both_ways, eq-eqb, eqb-true, ne_eqb}
@@ -9,11 +10,11 @@ use Rattle.ce_model.specs.declared.entry.What.TheVariants.{Peek}
 use Rattle.ce_model.specs.Node.{Node, Call}
 use Rattle.ce_model.specs.Answers.{answer, recorded_call}
 use Rattle.ce_model.specs.Saying.{says}
-use Rattle.ce_model.specs.Cube.{Cube, CubeState, opening, host_call_of, actor_call, HostCall, is_node, state, hoststore}
+use Rattle.ce_model.specs.Cube.{Cube, CubeState, opening, wish_of_call, actor_call, Wish, is_node, state, hoststore}
 use Rattle.ce_model.specs.Subcubes.{is_inside, relative_number}
 use Rattle.ce_model.specs.Renaming.{renamed_call_blocks, block_outward, CubeGrant, number_outward}
 use Rattle.ce_model.specs.Views.{trace_behind, view}
-use Rattle.ce_model.specs.Machine.{MachineParts, IsMachine, HeldCube, cube_held_by, nodes_of, cube_standing, with_places_outward, record_by, cube_after_entry, with_cube, state_after_entry, state_after_call, cube_of, after, Request, getcube, peek, drain, freecube, in_cube, is_alone, what_of_request, IsCallOf, IsFittingIn, IsFitting, IsLawfulEntry}
+use Rattle.ce_model.specs.Machine.{MachineParts, IsMachine, HeldCube, cube_held_by, nodes_of, cube_standing, with_places_outward, record_after_entry, cube_after_entry, with_cube, state_after_entry, state_after_call, cube_of, after, Request, getcube, peek, drain, freecube, cube_request, is_alone, what_of_request, IsCallOf, IsFittingIn, IsFitting, IsLawfulEntry}
 use Rattle.ce_model.proofs.OneMore.{state-more, hoststore-more}
 use Rattle.ce_solo.specs.Laws.{IsForeign, RequestsStillFit}
 use Rattle.ce_solo.proofs.Projection.Views.{found-more, trace-stays, view-is}
@@ -26,7 +27,7 @@ use Rattle.ce_solo.proofs.Projection.Law.{IsProjectedHistory, after-more, projec
 -- ---- the calls of others
 
 -- what an actor does next doesn't hang on the last entry, which is another's
-call_by-other : (cube : Cube) (o : CubeState) (t : List Entry) (actor : ℕ) (wish : Option HostCall) (entry : Entry) → (entry.actor == actor) ≡ false
+call_by-other : (cube : Cube) (o : CubeState) (t : List Entry) (actor : ℕ) (wish : Option Wish) (entry : Entry) → (entry.actor == actor) ≡ false
     → actor_call cube o (t ++ entry ∷ []) actor wish ≡ actor_call cube o t actor wish
 call_by-other cube o t actor wish entry other =
     elim (cases_Bool (actor == HOST)) [
@@ -48,7 +49,8 @@ call_by-other cube o t actor wish entry other =
 
 -- ---- what is asked of the history
 
--- what fits goes on fitting where its user holds what it held, and its cube's next call is what it was
+-- what fits goes on fitting where its user holds what it held, and its cube's next call is what it
+-- was
 fits-on : (parts : MachineParts) (h h' : List Entry) (user actor : ℕ) (request : Request)
     → ((held : Option HeldCube) → cube_held_by (after h) user ≡ held → held ≡ None → cube_held_by (after h') user ≡ None)
     → ((drained : Bool) → IsSomeAnd (cube_held_by (after h) user) (λ cube. cube.is_drained ≡ drained) → IsSomeAnd (cube_held_by (after h') user) (λ cube. cube.is_drained ≡ drained))
@@ -58,17 +60,17 @@ fits-on parts h h' user actor (getcube d) none drained call fits = (fits.0, fits
 fits-on parts h h' user actor peek none drained call fits = fits
 fits-on parts h h' user actor drain none drained call fits = (fits.0, drained false fits.1)
 fits-on parts h h' user actor freecube none drained call fits = (fits.0, drained true fits.1)
-fits-on parts h h' user actor (in_cube wish) none drained call fits = call wish fits
+fits-on parts h h' user actor (cube_request wish) none drained call fits = call wish fits
 
 call_of-kept : (parts : MachineParts) (h h' : List Entry) (actor : ℕ) (call : Call) (cube cube' : HeldCube) → cube'.grant ≡ cube.grant → cube'.is_drained ≡ cube.is_drained
-    → ((wish : Option HostCall) → actor_call (cube_of parts.images cube'.grant) (opening (cube_of parts.images cube'.grant)) (view h' cube'.number)
+    → ((wish : Option Wish) → actor_call (cube_of parts.images cube'.grant) (opening (cube_of parts.images cube'.grant)) (view h' cube'.number)
     (relative_number cube'.grant.sub actor) wish
     ≡ actor_call (cube_of parts.images cube.grant) (opening (cube_of parts.images cube.grant)) (view h cube.number) (relative_number cube.grant.sub actor) wish)
     → IsCallOf parts h actor call cube → IsCallOf parts h' actor call cube'
 call_of-kept parts h h' actor call cube cube' grant drained same of = record {
   inner = of.inner;
   inside = subst (λ (g : CubeGrant). IsTrue (actor == HOST) ⊎ IsTrue (is_inside g.sub actor)) (sym grant) of.inside;
-  next = same (host_call_of of.inner) ∙ of.next;
+  next = same (wish_of_call of.inner) ∙ of.next;
   renamed = ap (λ g. renamed_call_blocks (block_outward g) of.inner) grant ∙ of.renamed;
   within = of.within;
   not_drained = drained ∙ of.not_drained;
@@ -111,8 +113,8 @@ module _ (parts : MachineParts) (machine : IsMachine parts) (h : List Entry) (be
     held_next : cube_held_by (after h') user ≡ Some (cube_after_entry entry cube)
     held_next =
         ap (λ state. cube_held_by state user) (after-more h entry ∙ ap (λ call. state_after_call call entry (after h)) own.called)
-        ∙ ap (cube_held_by (with_cube entry.user (cube_after_entry entry) (λ cube. record_by cube.grant.sub entry) (after h))) (sym is_user)
-        ∙ held-own entry.user (cube_after_entry entry) (λ cube. refl) (λ cube. record_by cube.grant.sub entry) (after h) cube holds
+        ∙ ap (cube_held_by (with_cube entry.user (cube_after_entry entry) (λ cube. record_after_entry cube.grant.sub entry) (after h))) (sym is_user)
+        ∙ held-own entry.user (cube_after_entry entry) (λ cube. refl) (λ cube. record_after_entry cube.grant.sub entry) (after h) cube holds
 
     view_next : view h' cube.number ≡ view h cube.number ++ own.inner ∷ []
     view_next =
@@ -164,7 +166,7 @@ module _ (parts : MachineParts) (machine : IsMachine parts) (h : List Entry) (be
   by_asked request drain of e beside same other fits = absurd (cc)
   by_asked request freecube of e beside same other fits = absurd (cc)
   by_asked request peek of e beside same other fits = peeked request entry.what (ap (λ o. elim o [ None ↦ Peek | Some z ↦ z ]) e) refl fits
-  by_asked request (in_cube call) of e beside same other fits = beside_call request call (cube_held_by (after h) entry.user) refl of.1 e same other fits
+  by_asked request (cube_request call) of e beside same other fits = beside_call request call (cube_held_by (after h) entry.user) refl of.1 e same other fits
 
   by_user : (request : Request) (lawful : IsLawfulEntry parts h entry) → IsForeign user actor entry lawful.request → IsFittingIn parts h user actor request
       → IsFittingIn parts h' user actor request

@@ -7,7 +7,7 @@ use Rattle.ce_model.specs.Owners.{IsBlockOf}
 use Rattle.ce_model.specs.Hearing.{Hearing, start_of, mail_of, kill_of, poll_of, answer_of, nothing}
 use Rattle.ce_model.specs.Renaming.{CubeGrant, block_outward}
 use Rattle.ce_model.proofs.Subcubes.{all_subcubes, node_of-rises, node_of-within, ones_of-bound}
-use Rattle.ce_solo.specs.Laws.{IsGrant, IsHeardOf, RenamedNodesAgree}
+use Rattle.ce_solo.specs.Laws.{IsGrant, IsHearingOfCube, RenamedNodesAgree}
 use Rattle.ce_solo.proofs.Renaming.Store.{IsOrderKept}
 use Rattle.ce_solo.proofs.Renaming.Nodes.{named-from}
 use Rattle.ce_solo.proofs.Renaming.Calls.{Names}
@@ -82,7 +82,7 @@ outward_names dim grant of = record {
   order = outward_order dim grant of;
 }
 
-named_heard : (dim : ℕ) (grant : CubeGrant) (of : IsGrant dim grant) (heard : Hearing) → IsHeardOf grant.dim heard → IsNamedHeard (outward_names dim grant of) heard
+named_heard : (dim : ℕ) (grant : CubeGrant) (of : IsGrant dim grant) (heard : Hearing) → IsHearingOfCube grant.dim heard → IsNamedHeard (outward_names dim grant of) heard
 unfolding outward_names
 named_heard dim grant of (start_of pid image) is = tt
 named_heard dim grant of (mail_of parcel) is = is

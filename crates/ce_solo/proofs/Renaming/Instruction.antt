@@ -5,7 +5,7 @@ use Rattle.rv_model.specs.declared.stop.Stop.TheVariants.{Illegal}
 use Rattle.rv_model.specs.declared.inst.Inst.{Inst}
 use Rattle.rv_model.specs.declared.inst.Inst.TheVariants.{Lui, Auipc, Jal, Jalr, Branch, Load, Store, OpImm, Op, Fence, Ecall, Ebreak}
 use Rattle.rv_model.specs.Words.{dec}
-use Rattle.rv_model.specs.Exec.{Access, Outcome, next_state, call_state, stop_state, ◌>>=◌, reg, with_reg, is_taken, load_size, store_size, loaded_number, next_pc, offset_by, jump_outcome, effect_of, exec}
+use Rattle.rv_model.specs.Exec.{Access, Outcome, next_state, call_state, stop_state, ◌>>=◌, register_value, with_register, is_taken, load_size, store_size, loaded_number, next_pc, offset_by, jump_outcome, effect_of, exec}
 use Rattle.ce_model.specs.Space.{result_map}
 use Rattle.ce_solo.proofs.Renaming.Lists.{if_both}
 
@@ -49,19 +49,19 @@ module _ {M : Type 0} (A : Access M) (g : M → M) (Q : M → Type 0) (alike : I
   unfolding effect_of
   performed-alike (Lui rd imm) x pc m q = record { same = refl; left = q }
   performed-alike (Auipc rd imm) x pc m q = record { same = refl; left = q }
-  performed-alike (Jal rd offset) x pc m q = jumped-alike pc (offset_by pc offset) (with_reg x rd (next_pc pc)) m q
-  performed-alike (Jalr rd rs1 imm) x pc m q = jumped-alike pc (offset_by (reg x rs1) imm / 2 * 2) (with_reg x rd (next_pc pc)) m q
+  performed-alike (Jal rd offset) x pc m q = jumped-alike pc (offset_by pc offset) (with_register x rd (next_pc pc)) m q
+  performed-alike (Jalr rd rs1 imm) x pc m q = jumped-alike pc (offset_by (register_value x rs1) imm / 2 * 2) (with_register x rd (next_pc pc)) m q
   performed-alike (Branch op rs1 rs2 offset) x pc m q =
-      if_both AreAlike (is_taken op (reg x rs1) (reg x rs2)) _ _ _ _ (jumped-alike pc (offset_by pc offset) x m q) (record { same = refl; left = q })
+      if_both AreAlike (is_taken op (register_value x rs1) (register_value x rs2)) _ _ _ _ (jumped-alike pc (offset_by pc offset) x m q) (record { same = refl; left = q })
   performed-alike (Load op rd rs1 imm) x pc m q =
-      bound-alike _ (A.load m (offset_by (reg x rs1) imm) (load_size op))
-      (λ n. next_state (with_reg x rd (loaded_number op n)) (next_pc pc) (g m)) (λ n. next_state (with_reg x rd (loaded_number op n)) (next_pc pc) m)
-      (alike.loaded m (offset_by (reg x rs1) imm) (load_size op))
+      bound-alike _ (A.load m (offset_by (register_value x rs1) imm) (load_size op))
+      (λ n. next_state (with_register x rd (loaded_number op n)) (next_pc pc) (g m)) (λ n. next_state (with_register x rd (loaded_number op n)) (next_pc pc) m)
+      (alike.loaded m (offset_by (register_value x rs1) imm) (load_size op))
       (λ n. record { same = refl; left = q })
   performed-alike (Store op rs1 rs2 imm) x pc m q =
       stored_alike _ _ x (next_pc pc)
-      (alike.stored m (offset_by (reg x rs1) imm) (store_size op) (reg x rs2 % 256 ^ store_size op))
-      (alike.kept m (offset_by (reg x rs1) imm) (store_size op) (reg x rs2 % 256 ^ store_size op) q)
+      (alike.stored m (offset_by (register_value x rs1) imm) (store_size op) (register_value x rs2 % 256 ^ store_size op))
+      (alike.kept m (offset_by (register_value x rs1) imm) (store_size op) (register_value x rs2 % 256 ^ store_size op) q)
   performed-alike (OpImm op rd rs1 imm) x pc m q = record { same = refl; left = q }
   performed-alike (Op op rd rs1 rs2) x pc m q = record { same = refl; left = q }
   performed-alike (Fence word) x pc m q = record { same = refl; left = q }

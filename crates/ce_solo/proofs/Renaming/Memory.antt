@@ -14,7 +14,7 @@ use Rattle.ce_model.specs.declared.topology.Place.{Place}
 use Rattle.ce_model.specs.declared.topology.BlockId.{BlockId}
 use Rattle.ce_model.specs.Limits.{window_base}
 use Rattle.ce_model.specs.Blocks.{Block}
-use Rattle.ce_model.specs.Space.{Space, window_of, offset_of, mapped_space, unmapped_space, emptied_space, mapped_ids, AccessSite, in_private, in_block, site_in, access_site, number_in, with_number_in, result_map, loaded_at, stored_at, block_at_window, is_window_start, block_named, and_then, memory_place, places_at}
+use Rattle.ce_model.specs.Space.{Space, window_of, offset_of, mapped_space, unmapped_space, emptied_space, mapped_ids, AccessSite, private_site, block_site, site_in, access_site, number_in, with_number_in, result_map, load_result, store_result, block_at_window, is_window_start, block_named, and_then, memory_place, places_at}
 use Rattle.ce_model.specs.Renaming.{renamed_block, renamed_space}
 use Rattle.ce_solo.proofs.Lists.{all-append, all-get}
 use Rattle.ce_solo.proofs.Renaming.Lists.{if_ap, if_each, all-set, set-map}
@@ -38,8 +38,8 @@ module _ (rename : BlockId → BlockId) where
   -- ---- where an access is made
 
   abbrev pub spot_with : AccessSite → AccessSite
-  spot_with (in_private offset) = in_private offset
-  spot_with (in_block k block offset) = in_block k (renamed_block rename block) offset
+  spot_with (private_site offset) = private_site offset
+  spot_with (block_site k block offset) = block_site k (renamed_block rename block) offset
 
   spot_in-renamed : (window : Option (Option Block)) (a size : ℕ)
       → site_in (option_map (window_with rename) window) a size ≡ result_map spot_with (site_in window a size)
@@ -49,9 +49,9 @@ module _ (rename : BlockId → BlockId) where
 
   -- an access is made behind three tests
   tested : (misaligned private below : Bool) (a offset : ℕ) (there here : Result AccessSite Stop) → there ≡ result_map spot_with here
-      → (if misaligned then Err (Misaligned a) else (if private then Ok (in_private offset) else (if below then Err (Unmapped a) else there)))
+      → (if misaligned then Err (Misaligned a) else (if private then Ok (private_site offset) else (if below then Err (Unmapped a) else there)))
       ≡ result_map spot_with
-      (if misaligned then Err (Misaligned a) else (if private then Ok (in_private offset) else (if below then Err (Unmapped a) else here)))
+      (if misaligned then Err (Misaligned a) else (if private then Ok (private_site offset) else (if below then Err (Unmapped a) else here)))
   tested true private below a offset there here same = refl
   tested false true below a offset there here same = refl
   tested false false true a offset there here same = refl
@@ -68,25 +68,25 @@ module _ (rename : BlockId → BlockId) where
 
   loaded_by : (space : Space) (size : ℕ) (at : Result AccessSite Stop)
       → result_map (number_in (renamed_space rename space) size) (result_map spot_with at) ≡ result_map (number_in space size) at
-  loaded_by space size (Ok (in_private offset)) = refl
-  loaded_by space size (Ok (in_block k block offset)) = refl
+  loaded_by space size (Ok (private_site offset)) = refl
+  loaded_by space size (Ok (block_site k block offset)) = refl
   loaded_by space size (Err cause) = refl
 
-  pub loaded-renamed : (space : Space) (a size : ℕ) → loaded_at (renamed_space rename space) a size ≡ loaded_at space a size
+  pub loaded-renamed : (space : Space) (a size : ℕ) → load_result (renamed_space rename space) a size ≡ load_result space a size
   loaded-renamed space a size =
       ap (result_map (number_in (renamed_space rename space) size)) (spot-renamed space a size) ∙ loaded_by space size (access_site space a size)
 
   stored_by : (space : Space) (size n : ℕ) (at : Result AccessSite Stop)
       → result_map (with_number_in (renamed_space rename space) size n) (result_map spot_with at)
       ≡ result_map (renamed_space rename) (result_map (with_number_in space size n) at)
-  stored_by space size n (Ok (in_private offset)) = refl
-  stored_by space size n (Ok (in_block k block offset)) =
+  stored_by space size n (Ok (private_site offset)) = refl
+  stored_by space size n (Ok (block_site k block offset)) =
       ap (λ windows. Ok (record space { windows = windows }))
       (set-map (window_with rename) space.windows k (Some (record block { bytes = with_number_at block.bytes offset size n })))
   stored_by space size n (Err cause) = refl
 
   pub stored-renamed : (space : Space) (a size n : ℕ)
-      → stored_at (renamed_space rename space) a size n ≡ result_map (renamed_space rename) (stored_at space a size n)
+      → store_result (renamed_space rename space) a size n ≡ result_map (renamed_space rename) (store_result space a size n)
   stored-renamed space a size n =
       ap (result_map (with_number_in (renamed_space rename space) size n)) (spot-renamed space a size) ∙ stored_by space size n (access_site space a size)
 
@@ -108,7 +108,7 @@ module _ (rename : BlockId → BlockId) where
 
   place-renamed : (space : Space) (a : ℕ) → memory_place (renamed_space rename space) a ≡ memory_place space a
   place-renamed space a =
-      let word : (λ (a : ℕ). loaded_at (renamed_space rename space) a 4) ≡ (λ a. loaded_at space a 4) = fun_ext (λ a. loaded-renamed space a 4) in
+      let word : (λ (a : ℕ). load_result (renamed_space rename space) a 4) ≡ (λ a. load_result space a 4) = fun_ext (λ a. loaded-renamed space a 4) in
       ap (λ load. and_then (load a) (λ node. result_map (λ pid. record { node = node; pid = pid }) (load (wrapping_sum a 4)))) word
 
   pub places-renamed : (space : Space) (a count : ℕ) → places_at (renamed_space rename space) a count ≡ places_at space a count
@@ -189,8 +189,8 @@ module _ (P : BlockId → Type 0) where
   -- ---- a store changes no name
 
   abbrev IsNamedSpot : AccessSite → Type 0
-  IsNamedSpot (in_private offset) = Unit {0}
-  IsNamedSpot (in_block k block offset) = P block.id
+  IsNamedSpot (private_site offset) = Unit {0}
+  IsNamedSpot (block_site k block offset) = P block.id
 
   spot_in-named : (window : Option (Option Block)) (a size : ℕ) → IfSome window (IsNamedWindow P) → IfOk (site_in window a size) IsNamedSpot
   spot_in-named None a size named = tt
@@ -208,9 +208,9 @@ module _ (P : BlockId → Type 0) where
 
   stored_named : (space : Space) (size n : ℕ) (at : Result AccessSite Stop) → IsNamedSpace P space → IfOk at IsNamedSpot
       → IfOk (result_map (with_number_in space size n) at) (IsNamedSpace P)
-  stored_named space size n (Ok (in_private offset)) named is = named
-  stored_named space size n (Ok (in_block k block offset)) named is = all-set (IsNamedWindow P) space.windows k _ named is
+  stored_named space size n (Ok (private_site offset)) named is = named
+  stored_named space size n (Ok (block_site k block offset)) named is = all-set (IsNamedWindow P) space.windows k _ named is
   stored_named space size n (Err cause) named is = tt
 
-  pub stored-named : (space : Space) (a size n : ℕ) → IsNamedSpace P space → IfOk (stored_at space a size n) (IsNamedSpace P)
+  pub stored-named : (space : Space) (a size n : ℕ) → IsNamedSpace P space → IfOk (store_result space a size n) (IsNamedSpace P)
   stored-named space a size n named = stored_named space size n (access_site space a size) named (spot-named space a size named)

@@ -18,13 +18,13 @@ use Rattle.ce_solo.proofs.Calls.{call_numbered}
 use Rattle.ce_solo.proofs.Renaming.Lists.{zip-map}
 use Rattle.ce_solo.proofs.Renaming.Memory.{found_with, named-renamed, places-renamed, mapped-renamed, unmapped-renamed, named-named, mapped-named, unmapped-named}
 use Rattle.ce_solo.proofs.Renaming.Store.{AreNamed, put-named, put-renamed}
-use Rattle.ce_solo.proofs.Renaming.Calls.{Names, node_by, process_by, AreDid, AreNamedBoth, IsCallAlike, if-alike, returns-alike, answers-alike, stops-alike, says-alike, waits-alike, reading-alike}
+use Rattle.ce_solo.proofs.Renaming.Calls.{Names, node_with_names, process_with_names, AreDid, AreNamedBoth, IsCallAlike, if-alike, returns-alike, answers-alike, stops-alike, says-alike, waits-alike, reading-alike}
 
 module _ (names : Names) where
   -- ---- blocks
 
   map_outcome-alike : (node : Node) (turn : Turn) (p : Process) (len : ℕ) (store : List BlockId) → AreNamedBoth names node p → AreNamed names.P store
-      → AreDid names (map_outcome (node_by names node) turn (process_by names p) len (map names.rename store)) (map_outcome node turn p len store)
+      → AreDid names (map_outcome (node_with_names names node) turn (process_with_names names p) len (map names.rename store)) (map_outcome node turn p len store)
   map_outcome-alike node turn p len [] both named = answers-alike names node turn p 0 both
   map_outcome-alike node turn p len (id ∷ store) both named =
       let block : Block = record { id = id; bytes = replicate len 0 } in
@@ -43,22 +43,22 @@ module _ (names : Names) where
         (answers-alike names node turn p 0 both) (map_outcome-alike node turn p (argument p 0) node.store both both.around.store);
   }
 
-  process_without-same : (k : ℕ) (p : Process) → process_left_behind k (process_by names p) ≡ process_by names (process_left_behind k p)
+  process_without-same : (k : ℕ) (p : Process) → process_left_behind k (process_with_names names p) ≡ process_with_names names (process_left_behind k p)
   process_without-same k p = ap (with_space p) (unmapped-renamed names.rename k p.space)
 
   -- a call that does so with the block that the process names
   named-alike : (node : Node) (turn : Turn) (p : Process) (there here : ℕ × Block → CallOutcome) → AreNamedBoth names node p
       → ((found : ℕ × Block) → names.P found.1.id → AreDid names (there (found_with names.rename found)) (here found))
-      → AreDid names (read_outcome (node_by names node) turn (process_by names p) (block_named (process_by names p).space (argument p 0)) there) (read_outcome node turn p (block_named p.space (argument p 0)) here)
+      → AreDid names (read_outcome (node_with_names names node) turn (process_with_names names p) (block_named (process_with_names names p).space (argument p 0)) there) (read_outcome node turn p (block_named p.space (argument p 0)) here)
   named-alike node turn p there here both each =
       reading-alike names node turn p (found_with names.rename) (λ found. names.P found.1.id) _ (block_named p.space (argument p 0)) there here both
       (named-renamed names.rename p.space (argument p 0)) (named-named names.P p.space (argument p 0) both.own) each
 
   frees-alike : (node : Node) (turn : Turn) (p : Process) (found : ℕ × Block) → AreNamedBoth names node p → names.P found.1.id
-      → AreDid names (free_outcome (node_by names node) turn (process_by names p) (found_with names.rename found)) (free_outcome node turn p found)
+      → AreDid names (free_outcome (node_with_names names node) turn (process_with_names names p) (found_with names.rename found)) (free_outcome node turn p found)
   frees-alike node turn p found both new =
       returns-alike names _ (record node { store = with_id found.1.id node.store }) turn _ (process_left_behind found.0 p) 0 0
-      (ap (λ store. record (node_by names node) { store = store }) (put-renamed names.rename names.P found.1.id node.store names.order new both.around.store))
+      (ap (λ store. record (node_with_names names node) { store = store }) (put-renamed names.rename names.P found.1.id node.store names.order new both.around.store))
       (process_without-same found.0 p) refl
       (record {
         around = record { store = put-named names.P found.1.id node.store new both.around.store; processes = both.around.processes };
@@ -78,10 +78,10 @@ module _ (names : Names) where
   -- ---- messages
 
   send_outcome-alike : (node : Node) (turn : Turn) (p : Process) (found : ℕ × Block) → AreNamedBoth names node p
-      → AreDid names (send_outcome (node_by names node) turn (process_by names p) (found_with names.rename found)) (send_outcome node turn p found)
+      → AreDid names (send_outcome (node_with_names names node) turn (process_with_names names p) (found_with names.rename found)) (send_outcome node turn p found)
   send_outcome-alike node turn p found both =
       if-alike names _ (is_target node (place_named p 1)) _ _ _ _ refl
-      (says-alike names (node_by names node) node turn _ (process_left_behind found.0 p) _ (send_call turn.pid ((place_named p 1, found.1.id) ∷ []) found.1.bytes) refl (process_without-same found.0 p) refl)
+      (says-alike names (node_with_names names node) node turn _ (process_left_behind found.0 p) _ (send_call turn.pid ((place_named p 1, found.1.id) ∷ []) found.1.bytes) refl (process_without-same found.0 p) refl)
       (answers-alike names node turn p 1 both)
 
   xsend-alike : IsCallAlike names xsend
@@ -90,7 +90,7 @@ module _ (names : Names) where
   }
 
   copies_outcome-alike : (node : Node) (turn : Turn) (p : Process) (found : ℕ × Block) (places : List Place) → AreNamedBoth names node p → names.P found.1.id
-      → AreDid names (copies_outcome (node_by names node) turn (process_by names p) (found_with names.rename found) places) (copies_outcome node turn p found places)
+      → AreDid names (copies_outcome (node_with_names names node) turn (process_with_names names p) (found_with names.rename found) places) (copies_outcome node turn p found places)
   copies_outcome-alike node turn p found [] both new = frees-alike node turn p found both new
   copies_outcome-alike node turn p found (to ∷ others) both new =
       if-alike names _ (not (list_all (is_target node) (to ∷ others))) _ _ _ _ refl
@@ -99,7 +99,7 @@ module _ (names : Names) where
       (answers-alike names node turn p 2 both)
       (says-alike names _ (record node { store = drop (length others) node.store }) turn _ (process_left_behind found.0 p) _
       (send_call turn.pid (zip (to ∷ others) (found.1.id ∷ take (length others) node.store)) found.1.bytes)
-      (ap (λ store. record (node_by names node) { store = store }) (drop-map names.rename (length others) node.store))
+      (ap (λ store. record (node_with_names names node) { store = store }) (drop-map names.rename (length others) node.store))
       (process_without-same found.0 p)
       (ap (λ ids. send_call turn.pid (zip (to ∷ others) (names.rename found.1.id ∷ ids)) found.1.bytes) (take-map names.rename (length others) node.store)
       ∙ ap (λ targets. send_call turn.pid targets found.1.bytes) (zip-map names.rename (to ∷ others) (found.1.id ∷ take (length others) node.store)))))
@@ -109,7 +109,7 @@ module _ (names : Names) where
   map_same (Err cause) = refl
 
   xmsend_block-alike : (node : Node) (turn : Turn) (p : Process) (found : ℕ × Block) → AreNamedBoth names node p → names.P found.1.id
-      → AreDid names (xmsend_block (node_by names node) turn (process_by names p) (found_with names.rename found)) (xmsend_block node turn p found)
+      → AreDid names (xmsend_block (node_with_names names node) turn (process_with_names names p) (found_with names.rename found)) (xmsend_block node turn p found)
   xmsend_block-alike node turn p found both new =
       if-alike names _ (nat_lt greatest_targets (argument p 1)) _ _ _ _ refl
       (answers-alike names node turn p 3 both)
@@ -131,7 +131,7 @@ module _ (names : Names) where
         if-alike names _ (not (is_place node.dim (place_named p 1))) _ _ _ _ refl
         (answers-alike names node turn p 1 both)
         (if-alike names _ (nat_lt (argument p 0) node.images) _ _ _ _ refl
-        (says-alike names (node_by names node) node turn (process_by names p) p _ (spawn_call turn.pid (argument p 0) (place_named p 1)) refl refl refl)
+        (says-alike names (node_with_names names node) node turn (process_with_names names p) p _ (spawn_call turn.pid (argument p 0) (place_named p 1)) refl refl refl)
         (answers-alike names node turn p 3 both));
   }
 
@@ -139,7 +139,7 @@ module _ (names : Names) where
   ckill-alike = record {
     did = λ node turn p both.
         if-alike names _ (is_place node.dim (place_named p 0)) _ _ _ _ refl
-        (says-alike names (node_by names node) node turn (process_by names p) p _ (kill_call turn.pid (place_named p 0)) refl refl refl)
+        (says-alike names (node_with_names names node) node turn (process_with_names names p) p _ (kill_call turn.pid (place_named p 0)) refl refl refl)
         (answers-alike names node turn p 1 both);
   }
 
@@ -175,7 +175,7 @@ module _ (names : Names) where
                             record { did = λ node turn p both. stops-alike names node turn p (Exited (argument p 0)) both },
                             (
                               record {
-                                did = λ node turn p both. says-alike names (node_by names node) node turn (process_by names p) p _ (note_call turn.pid (argument p 0)) refl refl refl;
+                                did = λ node turn p both. says-alike names (node_with_names names node) node turn (process_with_names names p) p _ (note_call turn.pid (argument p 0)) refl refl refl;
                               },
                               tt,
                             ),
@@ -194,19 +194,19 @@ module _ (names : Names) where
   )
 
   counted-alike : (call : KernelCall) (node : Node) (turn : Turn) (p : Process) → IsCallAlike names call.outcome → AreNamedBoth names node p
-      → AreDid names (counted_outcome call (node_by names node) turn (process_by names p)) (counted_outcome call node turn p)
+      → AreDid names (counted_outcome call (node_with_names names node) turn (process_with_names names p)) (counted_outcome call node turn p)
   counted-alike call node turn p alike both =
       if-alike names _ (nat_lt turn.calls turn_calls) _ _ _ _ refl
       (alike.did node (record turn { calls = turn.calls + 1 }) p both) (stops-alike names node turn p TurnSpent both)
 
   does-alike : (call : Option KernelCall) (node : Node) (turn : Turn) (p : Process) → IfSome call (λ call. IsCallAlike names call.outcome) → AreNamedBoth names node p
-      → AreDid names (call_outcome call (node_by names node) turn (process_by names p)) (call_outcome call node turn p)
+      → AreDid names (call_outcome call (node_with_names names node) turn (process_with_names names p)) (call_outcome call node turn p)
   does-alike None node turn p alike both = stops-alike names node turn p (NoCall (call_number p)) both
   does-alike (Some call) node turn p alike both =
       if-alike names _ call.is_counted _ _ _ _ refl (counted-alike call node turn p alike both) (alike.did node turn p both)
 
   pub kernel-alike : (node : Node) (turn : Turn) (p : Process) → AreNamedBoth names node p
-      → AreDid names (kernel (node_by names node) turn (process_by names p)) (kernel node turn p)
+      → AreDid names (kernel (node_with_names names node) turn (process_with_names names p)) (kernel node turn p)
   unfolding kernel
   kernel-alike node turn p both =
       does-alike (kernel_call (call_number p)) node turn p

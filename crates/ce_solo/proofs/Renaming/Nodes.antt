@@ -1,4 +1,5 @@
--- A node with other names for its blocks, and what changes of it are on the node with the first names.
+-- A node with other names for its blocks, and what changes of it are on the node with the first
+-- names.
 use Rattle.std.proofs.Common.{◌≡◌, ℕ, ◌+◌, ◌*◌, Bool, if◌then◌else◌, List, [], ◌∷◌, map, slice_get, slice_set, None, refl, ap, ap₂, ◌∙◌}
 use Rattle.std.specs.List.{AllByRecursion}
 use Rattle.rv_model.specs.declared.stop.Stop.{Stop}
@@ -8,7 +9,7 @@ use Rattle.ce_model.specs.declared.topology.BlockId.{BlockId}
 use Rattle.ce_model.specs.Blocks.{with_ids}
 use Rattle.ce_model.specs.Space.{mapped_ids}
 use Rattle.ce_model.specs.Process.{Process, unborn_process, ended_process, is_receiving, is_stopped}
-use Rattle.ce_model.specs.Node.{Node, process_at, with_process, without_poller, with_stopped, blocks_of, take_call, process_set, take_of}
+use Rattle.ce_model.specs.Node.{Node, process_at, with_process, without_poller, with_stopped_process, blocks_of, take_call, process_set, take_call_of}
 use Rattle.ce_model.specs.Renaming.{renamed_process}
 use Rattle.ce_solo.proofs.Lists.{all-front, all-back, all-weaker}
 use Rattle.ce_solo.proofs.Renaming.Lists.{all-set, all-at, all-flat, at-map, set-map}
@@ -64,7 +65,7 @@ module _ (rename : BlockId → BlockId) (home : ℕ → ℕ) where
   ended-renamed cause p = ap (λ space. record p { status = Stopped cause; space = space }) (emptied-renamed rename p.space)
 
   pub with_stopped-renamed : (P : BlockId → Type 0) (node : Node) (pid : ℕ) (p : Process) (cause : Stop) → IsOrderKept rename P → IsNamed P node → IsNamedSpace P p.space
-      → with_stopped (node_with rename home node) pid (renamed_process rename p) cause ≡ node_with rename home (with_stopped node pid p cause)
+      → with_stopped_process (node_with rename home node) pid (renamed_process rename p) cause ≡ node_with rename home (with_stopped_process node pid p cause)
   with_stopped-renamed P node pid p cause order named own =
       ap₂ (λ processes store. node_stopped processes store)
       (ap (λ q. slice_set (map (renamed_process rename) node.processes) pid q) (ended-renamed cause p)
@@ -85,6 +86,6 @@ module _ (rename : BlockId → BlockId) (home : ℕ → ℕ) where
   ids-same test [] = refl
   ids-same test (p ∷ ps) = ap (λ n. (if test p.status then 1 else 0) + 2 * n) (ids-same test ps)
 
-  pub take-renamed : (node : Node) → take_of (node_with rename home node) ≡ take_of node
+  pub take-renamed : (node : Node) → take_call_of (node_with rename home node) ≡ take_call_of node
   take-renamed node =
       ap₂ (λ asking dead. take_call asking dead (slice_get node.polling_ids 0)) (ids-same is_receiving node.processes) (ids-same is_stopped node.processes)

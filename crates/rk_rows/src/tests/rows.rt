@@ -7,7 +7,7 @@ use rk_programs::{
 
 /// What the driver does.
 #[derive(Clone, Copy, Debug)]
-pub(super) enum Step {
+pub(super) enum RowCommand {
     Spawn { image: u32, pid: u32 },
     Kill { pid: u32 },
     Run,
@@ -18,16 +18,19 @@ pub(super) enum Step {
 pub(super) struct Row {
     pub title: &'static str,
     pub images: &'static [&'static str],
-    pub steps: &'static [Step],
+    pub commands: &'static [RowCommand],
     pub transcript: &'static str,
     pub ends: &'static [(u32, Status)],
 }
+
+/// One process is started, and runs.
+const ONE_PROCESS: &[RowCommand] = &[RowCommand::Spawn { image: 0, pid: 0 }, RowCommand::Run];
 
 /// The greatest block, one byte more than it, and an empty one.
 pub(super) const SIZES: Row = Row {
     title: "sizes",
     images: &[BLOCK_SIZES],
-    steps: &[Step::Spawn { image: 0, pid: 0 }, Step::Run],
+    commands: ONE_PROCESS,
     transcript: "\
         take 0 0 - start 0 0\n\
         note 0 2147483648\n\
@@ -70,17 +73,18 @@ const TAKES_ALL: &str = "\
                 li a7, 13\n\
                 ecall\n";
 
-/// A process has 32,768 windows; a message that finds none left is its end, and the message's block goes to the store.
+/// A process has 32,768 windows; a message that finds none left is its end, and the message's block
+/// goes to the store.
 pub(super) const WINDOWS: Row = Row {
     title: "windows",
     images: &[ALL_WINDOWS, SENDER, TAKES_ALL],
-    steps: &[
-        Step::Spawn { image: 0, pid: 0 },
-        Step::Run,
-        Step::Spawn { image: 1, pid: 1 },
-        Step::Run,
-        Step::Spawn { image: 2, pid: 2 },
-        Step::Run,
+    commands: &[
+        RowCommand::Spawn { image: 0, pid: 0 },
+        RowCommand::Run,
+        RowCommand::Spawn { image: 1, pid: 1 },
+        RowCommand::Run,
+        RowCommand::Spawn { image: 2, pid: 2 },
+        RowCommand::Run,
     ],
     transcript: "\
         take 0 0 - start 0 0\n\
@@ -119,12 +123,12 @@ pub(super) const JUMPS: Row = Row {
                 li a7, 13\n\
                 ecall\n",
     ],
-    steps: &[
-        Step::Spawn { image: 0, pid: 0 },
-        Step::Spawn { image: 1, pid: 1 },
-        Step::Spawn { image: 2, pid: 2 },
-        Step::Spawn { image: 3, pid: 3 },
-        Step::Run,
+    commands: &[
+        RowCommand::Spawn { image: 0, pid: 0 },
+        RowCommand::Spawn { image: 1, pid: 1 },
+        RowCommand::Spawn { image: 2, pid: 2 },
+        RowCommand::Spawn { image: 3, pid: 3 },
+        RowCommand::Run,
     ],
     transcript: "\
         take 0 0 - start 0 0\n\
@@ -144,7 +148,7 @@ pub(super) const JUMPS: Row = Row {
 pub(super) const XMSEND: Row = Row {
     title: "xmsend",
     images: &[MULTICAST],
-    steps: &[Step::Spawn { image: 0, pid: 0 }, Step::Run],
+    commands: ONE_PROCESS,
     transcript: "\
         take 0 0 - start 0 0\n\
         note 0 0\n\
@@ -167,14 +171,15 @@ pub(super) const XMSEND: Row = Row {
 pub(super) const UNREAD: Row = Row {
     title: "unread",
     images: &[UNREADABLE_LIST],
-    steps: &[Step::Spawn { image: 0, pid: 0 }, Step::Run],
+    commands: ONE_PROCESS,
     transcript: "\
         take 0 0 - start 0 0\n\
         take 0 1 - idle\n",
     ends: &[(0, Status::Stopped(Stop::Unmapped(0x0003_0000)))],
 };
 
-/// The 4,097th counted call of a turn stops the process, though xmsend of no block would stop it too.
+/// The 4,097th counted call of a turn stops the process, though xmsend of no block would stop it
+/// too.
 pub(super) const CALLS_SPENT: Row = Row {
     title: "calls_spent",
     images: &[
@@ -196,7 +201,7 @@ pub(super) const CALLS_SPENT: Row = Row {
                 li a7, 5\n\
                 ecall\n",
     ],
-    steps: &[Step::Spawn { image: 0, pid: 0 }, Step::Run],
+    commands: ONE_PROCESS,
     transcript: "\
         take 0 0 - start 0 0\n\
         note 0 3\n\
@@ -222,16 +227,16 @@ pub(super) const CAUSES_OF_INSTRUCTIONS: Row = Row {
                 li a7, 15\n\
                 ecall\n",
     ],
-    steps: &[
-        Step::Spawn { image: 0, pid: 0 },
-        Step::Spawn { image: 1, pid: 1 },
-        Step::Spawn { image: 2, pid: 2 },
-        Step::Spawn { image: 3, pid: 3 },
-        Step::Spawn { image: 4, pid: 4 },
-        Step::Spawn { image: 5, pid: 5 },
-        Step::Spawn { image: 6, pid: 6 },
-        Step::Spawn { image: 7, pid: 7 },
-        Step::Run,
+    commands: &[
+        RowCommand::Spawn { image: 0, pid: 0 },
+        RowCommand::Spawn { image: 1, pid: 1 },
+        RowCommand::Spawn { image: 2, pid: 2 },
+        RowCommand::Spawn { image: 3, pid: 3 },
+        RowCommand::Spawn { image: 4, pid: 4 },
+        RowCommand::Spawn { image: 5, pid: 5 },
+        RowCommand::Spawn { image: 6, pid: 6 },
+        RowCommand::Spawn { image: 7, pid: 7 },
+        RowCommand::Run,
     ],
     transcript: "\
         take 0 0 - start 0 0\n\
@@ -272,15 +277,15 @@ pub(super) const CAUSES_OF_CALLS: Row = Row {
         GONE_BLOCK,
         "loop: j loop\n",
     ],
-    steps: &[
-        Step::Spawn { image: 0, pid: 0 },
-        Step::Spawn { image: 1, pid: 1 },
-        Step::Spawn { image: 2, pid: 2 },
-        Step::Spawn { image: 3, pid: 3 },
-        Step::Spawn { image: 4, pid: 4 },
-        Step::Run,
-        Step::Kill { pid: 0 },
-        Step::Run,
+    commands: &[
+        RowCommand::Spawn { image: 0, pid: 0 },
+        RowCommand::Spawn { image: 1, pid: 1 },
+        RowCommand::Spawn { image: 2, pid: 2 },
+        RowCommand::Spawn { image: 3, pid: 3 },
+        RowCommand::Spawn { image: 4, pid: 4 },
+        RowCommand::Run,
+        RowCommand::Kill { pid: 0 },
+        RowCommand::Run,
     ],
     transcript: "\
         take 0 0 - start 0 0\n\
@@ -306,18 +311,28 @@ const ENDS: &str = "\
                 li a7, 13\n\
                 ecall\n";
 
-/// A process is started, and a word that it notes changes nothing in it.
-pub(super) const STARTED: Row = Row {
-    title: "started",
-    images: &[
-        "\
-                li a0, 5\n\
+/// Does this first, notes what a0 holds then, and exits with it.
+macro_rules! noter {
+    ($first:literal) => {
+        concat!(
+            $first,
+            "\
                 li a7, 14\n\
                 ecall\n\
                 li a7, 13\n\
-                ecall\n",
-    ],
-    steps: &[Step::Spawn { image: 0, pid: 0 }, Step::Run],
+                ecall\n"
+        )
+    };
+}
+
+/// A process is started, and a word that it notes changes nothing in it.
+pub(super) const STARTED: Row = Row {
+    title: "started",
+    images: &[noter!(
+        "\
+                li a0, 5\n"
+    )],
+    commands: ONE_PROCESS,
     transcript: "\
         take 0 0 - start 0 0\n\
         note 0 5\n\
@@ -345,10 +360,10 @@ macro_rules! reader {
 }
 
 /// One process waits, and then another sends.
-const READER_AND_SENDER: &[Step] = &[
-    Step::Spawn { image: 0, pid: 0 },
-    Step::Spawn { image: 1, pid: 1 },
-    Step::Run,
+const READER_AND_SENDER: &[RowCommand] = &[
+    RowCommand::Spawn { image: 0, pid: 0 },
+    RowCommand::Spawn { image: 1, pid: 1 },
+    RowCommand::Run,
 ];
 
 /// The one has read the block, and the other has sent it.
@@ -361,7 +376,7 @@ const READ_AND_SENT: &[(u32, Status)] = &[
 pub(super) const MAIL_FOR_ONE_THAT_ASKS: Row = Row {
     title: "mail_for_one_that_asks",
     images: &[reader!("7"), SENDER],
-    steps: READER_AND_SENDER,
+    commands: READER_AND_SENDER,
     transcript: "\
         take 0 0 - start 0 0\n\
         take 1 0 - start 1 1\n\
@@ -377,7 +392,7 @@ pub(super) const MAIL_FOR_ONE_THAT_ASKS: Row = Row {
 pub(super) const MAIL_FOR_ONE_THAT_POLLS: Row = Row {
     title: "mail_for_one_that_polls",
     images: &[reader!("6"), SENDER],
-    steps: READER_AND_SENDER,
+    commands: READER_AND_SENDER,
     transcript: "\
         take 0 0 - start 0 0\n\
         take 1 0 0 start 1 1\n\
@@ -389,16 +404,17 @@ pub(super) const MAIL_FOR_ONE_THAT_POLLS: Row = Row {
     ends: READ_AND_SENT,
 };
 
-/// A message for a process that has stopped: its block is in the store, where another process finds all 32.
+/// A message for a process that has stopped: its block is in the store, where another process finds
+/// all 32.
 pub(super) const MAIL_FOR_ONE_THAT_HAS_STOPPED: Row = Row {
     title: "mail_for_one_that_has_stopped",
     images: &[ENDS, SENDER, TAKES_ALL],
-    steps: &[
-        Step::Spawn { image: 0, pid: 0 },
-        Step::Spawn { image: 1, pid: 1 },
-        Step::Run,
-        Step::Spawn { image: 2, pid: 2 },
-        Step::Run,
+    commands: &[
+        RowCommand::Spawn { image: 0, pid: 0 },
+        RowCommand::Spawn { image: 1, pid: 1 },
+        RowCommand::Run,
+        RowCommand::Spawn { image: 2, pid: 2 },
+        RowCommand::Run,
     ],
     transcript: "\
         take 0 0 - start 0 0\n\
@@ -417,16 +433,19 @@ pub(super) const MAIL_FOR_ONE_THAT_HAS_STOPPED: Row = Row {
     ],
 };
 
+/// One process is started and runs, and then it is killed.
+const RUN_AND_KILL: &[RowCommand] = &[
+    RowCommand::Spawn { image: 0, pid: 0 },
+    RowCommand::Run,
+    RowCommand::Kill { pid: 0 },
+    RowCommand::Run,
+];
+
 /// A process that waits is killed.
 pub(super) const KILLED: Row = Row {
     title: "killed",
     images: &[WAIT],
-    steps: &[
-        Step::Spawn { image: 0, pid: 0 },
-        Step::Run,
-        Step::Kill { pid: 0 },
-        Step::Run,
-    ],
+    commands: RUN_AND_KILL,
     transcript: "\
         take 0 0 - start 0 0\n\
         take 1 0 - idle\n\
@@ -439,12 +458,7 @@ pub(super) const KILLED: Row = Row {
 pub(super) const KILLED_LATE: Row = Row {
     title: "killed_late",
     images: &[ENDS],
-    steps: &[
-        Step::Spawn { image: 0, pid: 0 },
-        Step::Run,
-        Step::Kill { pid: 0 },
-        Step::Run,
-    ],
+    commands: RUN_AND_KILL,
     transcript: "\
         take 0 0 - start 0 0\n\
         take 0 1 - idle\n\
@@ -456,17 +470,13 @@ pub(super) const KILLED_LATE: Row = Row {
 /// A process that polls is told 0.
 pub(super) const POLLED: Row = Row {
     title: "polled",
-    images: &[
+    images: &[noter!(
         "\
                 li a0, 7\n\
                 li a7, 6\n\
-                ecall\n\
-                li a7, 14\n\
-                ecall\n\
-                li a7, 13\n\
-                ecall\n",
-    ],
-    steps: &[Step::Spawn { image: 0, pid: 0 }, Step::Run],
+                ecall\n"
+    )],
+    commands: ONE_PROCESS,
     transcript: "\
         take 0 0 - start 0 0\n\
         take 1 0 0 poll 0\n\
@@ -479,7 +489,7 @@ pub(super) const POLLED: Row = Row {
 pub(super) const ANSWERS: Row = Row {
     title: "answers",
     images: &[WAIT, REQUESTS],
-    steps: &[Step::Spawn { image: 1, pid: 0 }, Step::Run],
+    commands: &[RowCommand::Spawn { image: 1, pid: 0 }, RowCommand::Run],
     transcript: "\
         take 0 0 - start 0 1\n\
         spawn 0 0 0.1 ok\n\
@@ -511,7 +521,7 @@ pub(super) const ANSWERS: Row = Row {
 pub(super) const IDLE: Row = Row {
     title: "idle",
     images: &[],
-    steps: &[Step::Run, Step::Run],
+    commands: &[RowCommand::Run, RowCommand::Run],
     transcript: "\
         take 0 0 - idle\n\
         take 0 0 - idle\n",

@@ -65,10 +65,10 @@ fn fields_in(bytes: &[u8]) -> Result<Fields<'_>, ImageFault>
     })
 }
 
-/// The image that the bytes spell in RKI1 (docs/IMAGE.md): the magic, the entry, the number of loaded bytes and
-/// that of zero bytes, each as a little-endian u32, the loaded bytes, and the end. Other bytes are refused with
-/// the first fault that holds, in the order of `ImageFault`'s variants. `Memory` comes only where memory runs out
-/// and the bytes have no fault.
+/// The image that the bytes spell in RKI1 (docs/IMAGE.md): the magic, the entry, the number of
+/// loaded bytes and that of zero bytes, each as a little-endian u32, the loaded bytes, and the end.
+/// Other bytes are refused with the first fault that holds, in the order of `ImageFault`'s
+/// variants. `Memory` comes only where memory runs out and the bytes have no fault.
 pub fn read(alloc: Global, bytes: &[u8]) -> Result<Image, ImageFault>
     // What is read is spelled so.
     ensures found { IfOk result (λ image. IsRki1 bytes.now image) }
@@ -86,7 +86,8 @@ pub fn read(alloc: Global, bytes: &[u8]) -> Result<Image, ImageFault>
     })
 }
 
-/// The one spelling of an image in RKI1, which `read` gives back. The error comes where memory runs out.
+/// The one spelling of an image in RKI1, which `read` gives back. The error comes where memory runs
+/// out.
 pub fn write(alloc: Global, image: &Image) -> Result<Vec<u8>, NoMemory>
     ensures { IfOk result (λ bytes. IsRki1 bytes.items image.now) }
 {

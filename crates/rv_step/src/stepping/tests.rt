@@ -18,12 +18,12 @@ const MAX: u32 = 0x7FFF_FFFF;
 const MIN: u32 = 0x8000_0000;
 
 // Registers of which x1, x2 and x3 are these, and the others 0.
-fn registers(x1: u32, x2: u32, x3: u32) -> Regs {
-    let mut regs = Regs::new();
-    regs.set(Register { number: 1 }, x1);
-    regs.set(Register { number: 2 }, x2);
-    regs.set(Register { number: 3 }, x3);
-    regs
+fn three_registers(x1: u32, x2: u32, x3: u32) -> Registers {
+    let mut registers = Registers::new();
+    registers.set(Register { number: 1 }, x1);
+    registers.set(Register { number: 2 }, x2);
+    registers.set(Register { number: 3 }, x3);
+    registers
 }
 
 // Checks what `word` does at START.
@@ -31,28 +31,28 @@ fn check(
     rt: &impl Abort,
     memory: &mut PrivateMemory,
     word: u32,
-    mut regs: Regs,
+    mut registers: Registers,
     event: Event,
-    after: Regs,
+    after: Registers,
     target: u32,
 ) {
     let mut pc = START;
     assert_eq!(rt; memory.store(START, AccessSize::word(), word), Ok(()));
-    assert_eq!(rt; step(&mut regs, &mut pc, memory), event, "{word:x}");
-    assert_eq!(rt; regs, after, "{word:x}");
+    assert_eq!(rt; step(&mut registers, &mut pc, memory), event, "{word:x}");
+    assert_eq!(rt; registers, after, "{word:x}");
     assert_eq!(rt; pc, target, "{word:x}");
 }
 
 // Checks x3 after each word, where x1 and x2 are the two numbers beside it.
 fn check_results(rt: &impl Abort, memory: &mut PrivateMemory, rows: &[(u32, u32, u32, u32)]) {
     for (word, a, b, result) in rows {
-        let after = registers(*a, *b, *result);
+        let after = three_registers(*a, *b, *result);
         check(
             rt,
             memory,
             *word,
-            registers(*a, *b, 77),
-            Event::Went,
+            three_registers(*a, *b, 77),
+            Event::Advance,
             after,
             NEXT,
         );
@@ -191,10 +191,18 @@ fn check_branches(rt: &impl Abort, memory: &mut PrivateMemory, a: u32, b: u32, t
     let words = [
         0x00208463, 0x00209463, 0x0020C463, 0x0020D463, 0x0020E463, 0x0020F463,
     ];
-    let regs = registers(a, b, 77);
+    let registers = three_registers(a, b, 77);
     for (word, taken) in words.iter().zip(taken) {
         let target = if *taken { 0x1_0008 } else { NEXT };
-        check(rt, memory, *word, regs, Event::Went, regs, target);
+        check(
+            rt,
+            memory,
+            *word,
+            registers,
+            Event::Advance,
+            registers,
+            target,
+        );
     }
 }
 
@@ -223,29 +231,29 @@ fn jumps(rt: HostRuntime) -> Result<(), Fail> {
     let rows = [
         // jal x1 by 6, 8 and -4
         (0x006000EF, 0, refused, START, 0),
-        (0x008000EF, 0, Event::Went, 0x1_0008, NEXT),
-        (0xFFDFF0EF, 0, Event::Went, 0xFFFC, NEXT),
+        (0x008000EF, 0, Event::Advance, 0x1_0008, NEXT),
+        (0xFFDFF0EF, 0, Event::Advance, 0xFFFC, NEXT),
         // jal x0 by 8
-        (0x0080006F, 5, Event::Went, 0x1_0008, 5),
+        (0x0080006F, 5, Event::Advance, 0x1_0008, 5),
         // bne x0, x0 by 6, and beq x0, x0 by 6
-        (0x00001363, 0, Event::Went, NEXT, 0),
+        (0x00001363, 0, Event::Advance, NEXT, 0),
         (0x00000363, 0, refused, START, 0),
         // beq x0, x0 by -4
-        (0xFE000EE3, 0, Event::Went, 0xFFFC, 0),
+        (0xFE000EE3, 0, Event::Advance, 0xFFFC, 0),
         // jalr x1, 0(x1) and jalr x1, 1(x1)
-        (0x000080E7, 0x1_0010, Event::Went, 0x1_0010, NEXT),
+        (0x000080E7, 0x1_0010, Event::Advance, 0x1_0010, NEXT),
         (0x000080E7, 0x1_0012, refused, START, 0x1_0012),
-        (0x001080E7, 0x1_0008, Event::Went, 0x1_0008, NEXT),
+        (0x001080E7, 0x1_0008, Event::Advance, 0x1_0008, NEXT),
         (0x001080E7, 0x1_0009, refused, START, 0x1_0009),
-        (0x001080E7, 0x1_000B, Event::Went, 0x1_000C, NEXT),
+        (0x001080E7, 0x1_000B, Event::Advance, 0x1_000C, NEXT),
     ];
     for (word, before, event, pc, after) in &rows {
-        let after = registers(*after, 0, 0);
+        let after = three_registers(*after, 0, 0);
         check(
             &rt,
             &mut memory,
             *word,
-            registers(*before, 0, 0),
+            three_registers(*before, 0, 0),
             *event,
             after,
             *pc,
@@ -282,15 +290,16 @@ fn loads(rt: HostRuntime) -> Result<(), Fail> {
     Ok(())
 }
 
-// Checks the word at DATA, which was 0x017F_FF80, after a store of 0x1234_5678, where x1 is `addr`.
-fn check_store(rt: &impl Abort, memory: &mut PrivateMemory, word: u32, addr: u32, stored: u32) {
+// Checks the word at DATA, which was 0x017F_FF80, after a store of 0x1234_5678, where x1 is
+// `address`.
+fn check_store(rt: &impl Abort, memory: &mut PrivateMemory, word: u32, address: u32, stored: u32) {
     assert_eq!(rt; memory.store(DATA, AccessSize::word(), 0x017F_FF80), Ok(()));
-    let regs = registers(addr, 0x1234_5678, 77);
-    check(rt, memory, word, regs, Event::Went, regs, NEXT);
+    let registers = three_registers(address, 0x1234_5678, 77);
+    check(rt, memory, word, registers, Event::Advance, registers, NEXT);
     assert_eq!(rt;
         memory.load(DATA, AccessSize::word()),
         Ok(stored),
-        "{word:x} {addr:x}"
+        "{word:x} {address:x}"
     );
     assert_eq!(rt; memory.load(DATA - 4, AccessSize::word()), Ok(0));
     assert_eq!(rt; memory.load(DATA + 4, AccessSize::word()), Ok(0));
@@ -309,8 +318,8 @@ fn stores(rt: HostRuntime) -> Result<(), Fail> {
         (0x0020A023, DATA, 0x1234_5678),
         (0xFE20AE23, DATA + 4, 0x1234_5678),
     ];
-    for (word, addr, stored) in &rows {
-        check_store(&rt, &mut memory, *word, *addr, *stored);
+    for (word, address, stored) in &rows {
+        check_store(&rt, &mut memory, *word, *address, *stored);
     }
     Ok(())
 }
@@ -333,21 +342,21 @@ fn stops(rt: HostRuntime) -> Result<(), Fail> {
         // lb by 1: addresses go on from 0
         (0x00108183, ONES, Stop::Unmapped(0)),
     ];
-    for (word, addr, cause) in &rows {
-        let regs = registers(*addr, 5, 77);
+    for (word, address, cause) in &rows {
+        let registers = three_registers(*address, 5, 77);
         check(
             &rt,
             &mut memory,
             *word,
-            regs,
+            registers,
             Event::Stopped(*cause),
-            regs,
+            registers,
             START,
         );
     }
     for start in [0xFFFC, 0x1_0002, 0x3_0000, 0x8000_0000] {
         let mut pc = start;
-        let event = step(&mut registers(0, 0, 0), &mut pc, &mut memory);
+        let event = step(&mut three_registers(0, 0, 0), &mut pc, &mut memory);
         assert_eq!(rt; event, Event::Stopped(Stop::Fetch(start)));
     }
     Ok(())
@@ -359,8 +368,16 @@ fn calls(rt: HostRuntime) -> Result<(), Fail> {
     memory.load_into_zeros(&[0x6F, 0, 0, 0, 9]);
     assert_eq!(rt; memory.load(START, AccessSize::word()), Ok(0x6F));
     assert_eq!(rt; memory.load(NEXT, AccessSize::word()), Ok(9));
-    let regs = registers(1, 2, 3);
-    check(&rt, &mut memory, 0x00000073, regs, Event::Call, regs, NEXT);
+    let registers = three_registers(1, 2, 3);
+    check(
+        &rt,
+        &mut memory,
+        0x00000073,
+        registers,
+        Event::Call,
+        registers,
+        NEXT,
+    );
     memory.load_image(&[0x13, 0, 0, 0, 7]);
     assert_eq!(rt; memory.load(START, AccessSize::word()), Ok(0x13));
     assert_eq!(rt; memory.load(NEXT, AccessSize::word()), Ok(7));

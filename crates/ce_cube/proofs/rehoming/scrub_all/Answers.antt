@@ -10,7 +10,7 @@ use Rattle.ce_cube.proofs.rehoming.scrub_all.Goals as goal
 pub scrub-requires-clause-idle : goal.scrub-requires-clause-idle
 scrub-requires-clause-idle c =
     let d : Box = c.node-item.result in
-    ap (λ (box : Box). box.out) (next-is emptied_box c.args.nodes.now c.loop-node.nodes c.loop-node.node-index c.loop-node-test.true c.loop-node.invariant.boxes d)
+    ap (λ (box : Box). box.awaited_call) (next-is emptied_box c.args.nodes.now c.loop-node.nodes c.loop-node.node-index c.loop-node-test.true c.loop-node.invariant.boxes d)
     ∙ c.requires.idle c.loop-node.node-index d c.loop-node-test.true
 
 pub scrub-requires-clause-room : goal.scrub-requires-clause-room

@@ -9,7 +9,7 @@ use Rattle.ce_model.specs.Node.{Node, blocks_of}
 use Rattle.ce_model.specs.Kernel.{with_store}
 use Rattle.xm_block.specs.Stores.{ids_of}
 use Rattle.rk_node.specs.Boxes.{Box, HasRoomForBlock}
-use Rattle.ce_cube.specs.Homecoming.{HasPrefix, IsEmptied}
+use Rattle.ce_cube.specs.Homecoming.{HasPrefix, IsEmptiedBox}
 use Rattle.ce_cube.proofs.Gathering.{name_at, home-of_name, first_names, all-names, length-names, put-next, next-new, next-first}
 use Rattle.ce_cube.proofs.rehoming.send_home.Goals as goal
 
@@ -42,7 +42,7 @@ unreachable-requires c =
 
 -- a box that has the first blocks of its home, and the store's next
 module _ (box now : Box) (store : List BlockId) (i : ℕ) (block : Block) (held left : List Block)
-    (empty : IsEmptied box) (least : HasPrefix (blocks_of_home box.node.home) store) (less : i < 32)
+    (empty : IsEmptiedBox box) (least : HasPrefix (blocks_of_home box.node.home) store) (less : i < 32)
     (filled : now ≡ record box { node = with_store (first_names box.node.home i) box.node }) (so_far : ids_of held ≡ drop i store) (taken : held ≡ block ∷ left) where
   next : block.id ∷ ids_of left ≡ name_at box.node.home i ∷ drop (i + 1) store
   next = sym (ap ids_of taken) ∙ so_far ∙ next-first box.node.home i store least (omega (arith, less, home_blocks_lem))

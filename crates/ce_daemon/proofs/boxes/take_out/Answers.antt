@@ -6,7 +6,7 @@ use Rattle.std.proofs.lemmas.Nat.{one_shl}
 use Rattle.ce_model.specs.Limits.{greatest_dim, greatest_dim_lem}
 use Rattle.ce_model.specs.Subcubes.{node_of, is_inside, ones_of}
 use Rattle.ce_model.proofs.Subcubes.{ones_of-bound, same_from_node_of, is_inside-node_of}
-use Rattle.ce_daemon.specs.Boxes.{HasBox, IsBoxOf}
+use Rattle.ce_daemon.specs.Boxes.{HasBox, IsNodeBox}
 use Rattle.ce_daemon.proofs.Rows.{AreBoxes-push}
 use Rattle.ce_daemon.proofs.boxes.take_out.Goals as goal
 
@@ -24,9 +24,9 @@ kept home clean places node other next apart has = rw get_or-set_other has
 
 -- what a place has is the box that is taken
 is_taken : {N : Type 0} (home : N → ℕ) (clean : N → Type 0) (places : List (Option N)) (node : ℕ) (there : Option N) (taken : N)
-    → HasBox home clean places node → there ≡ get_or places node None → Some taken ≡ there → IsBoxOf home clean node taken
+    → HasBox home clean places node → there ≡ get_or places node None → Some taken ≡ there → IsNodeBox home clean node taken
 is_taken {N} home clean places node there taken has is same =
-    let P : Option N → Type 0 = λ o. IsSomeAnd o (IsBoxOf home clean node) in
+    let P : Option N → Type 0 = λ o. IsSomeAnd o (IsNodeBox home clean node) in
     subst P (sym (same ∙ is)) has
 
 pub loop-r-preserved : goal.loop-r-preserved
@@ -44,10 +44,10 @@ loop-r-preserved g c =
     let within : index < length l.places.items = omega (arith, at_node, c.requires.places l.r here, l.invariant.all) in
     let there = get_or_read l.places.items index c.index_mut-place.result.now within c.index_mut-place.ensures.value None in
     let has : HasBox home clean l.places.items index = rw at_node (l.invariant.rest l.r (omega arith) here) in
-    let is : IsBoxOf home clean index c.in-Some.taken =
-    is_taken home clean l.places.items index c.index_mut-place.result.now c.in-Some.taken has there c.in-Some.ensures.value in
+    let is : IsNodeBox home clean index c.in-Some.node_box =
+    is_taken home clean l.places.items index c.index_mut-place.result.now c.in-Some.node_box has there c.in-Some.ensures.value in
     record {
-      out = rw c.push_reserved.ensures.items (AreBoxes-push home clean l.r (node_of sub) l.out.items c.in-Some.taken l.invariant.out (rw at_node at is));
+      out = rw c.push_reserved.ensures.items (AreBoxes-push home clean l.r (node_of sub) l.boxes.items c.in-Some.node_box l.invariant.out (rw at_node at is));
       rest = λ s past below.
           kept home clean l.places.items index (node_of sub s) c.take.new.self
           (λ same. absurd (omega (arith, same_from_node_of sub s l.r apart (omega (arith, ones)) (omega (arith, ones)) (same ∙ at_node))))

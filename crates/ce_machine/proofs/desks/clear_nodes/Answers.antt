@@ -6,7 +6,7 @@ use Rattle.ce_machine.proofs.Loops.{at_first, first-none, first-read, first-more
 use Rattle.ce_machine.proofs.desks.clear_nodes.Goals as goal
 
 abbrev clear : NodeRecord → NodeRecord
-clear kept = blank_record
+clear node_record = blank_record
 
 pub loop-r-init : goal.loop-r-init
 loop-r-init c = first-none c.args.grant.now.sub clear c.args.desks.now.items
@@ -16,7 +16,7 @@ clear-requires c =
     let sub = c.args.grant.now.sub in
     let r = c.loop-r.r in
     let below : r < 2 ^ c.args.grant.now.dim = omega (arith, c.loop-r-test.true, c.node_count-r-end.ensures) in
-    ap (λ (kept : NodeRecord). kept.waiting_items)
+    ap (λ (node_record : NodeRecord). node_record.waiting_items)
     (first-read sub c.args.grant.now.dim r c.requires.sub.sub_is below clear c.args.desks.now.items c.loop-r.desks.items _ c.index_mut-desk.result.now (c.requires.sub.within r below) c.loop-r.invariant c.node_at.ensures c.index_mut-desk.ensures.value)
     ∙ c.requires.empty r below
 

@@ -5,4 +5,4 @@ use Rattle.ce_machine.proofs.desks.clear_nodes.Given as goal
 
 -- the desks of the nodes so far are blank, and the others as they were
 abbrev pub invariant-loop-r : goal.invariant-loop-r
-invariant-loop-r l = AreChanged l.initial.desks.items l.desks.items (at_first l.grant.sub l.r (λ kept. blank_record))
+invariant-loop-r l = AreChanged l.initial.desks.items l.desks.items (at_first l.grant.sub l.r (λ node_record. blank_record))

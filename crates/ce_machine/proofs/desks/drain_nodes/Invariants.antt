@@ -5,7 +5,8 @@ use Rattle.ce_machine.specs.Desks.{AreChanged, without_items}
 use Rattle.ce_machine.proofs.Loops.{rest_from, at_first}
 use Rattle.ce_machine.proofs.desks.drain_nodes.Given as goal
 
--- nothing waits at the nodes so far, and the blocks so far, in front of those that wait at the others, are all
+-- nothing waits at the nodes so far, and the blocks so far, in front of those that wait at the
+-- others, are all
 abbrev pub invariant-loop-r : goal.invariant-loop-r
 invariant-loop-r l = record {
   desks : AreChanged l.initial.desks.items l.desks.items (at_first l.grant.sub l.r without_items);

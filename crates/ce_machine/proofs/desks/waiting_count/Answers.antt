@@ -22,7 +22,7 @@ loop-r-preserved c =
     let waits : List ℕ → List Item = λ nodes. flat_map (λ node. (desk_at desks node).waiting_items) nodes in
     let step : length (waits (rest_from sub r end)) ≡ length (desk_at desks (node_of sub r)).waiting_items + length (waits (rest_from sub (r + 1) end)) =
     ap (λ nodes. length (waits nodes)) (rest-more sub r end c.loop-r-test.true) ∙ length-append (desk_at desks (node_of sub r)).waiting_items (waits (rest_from sub (r + 1) end)) in
-    let here : c.count.result ≡ length (desk_at desks (node_of sub r)).waiting_items = c.count.ensures.value ∙ ap (λ (kept : NodeRecord). length kept.waiting_items) c.desk_of.ensures in
+    let here : c.count.result ≡ length (desk_at desks (node_of sub r)).waiting_items = c.count.ensures.value ∙ ap (λ (node_record : NodeRecord). length node_record.waiting_items) c.desk_of.ensures in
     record {
       all = omega (arith, c.loop-r.invariant.all, step, here);
       few = omega (arith, c.loop-r.invariant.few, c.count.ensures.within, node_room_lem);

@@ -1,7 +1,7 @@
 use Rattle.std.proofs.Common.{◌≡◌, ℕ, List, Some, None, map, sym, subst, refl, ◌∙◌}
 use Rattle.std.specs.String.{string_bytes}
 use Rattle.ce_io.specs.Whole.{reading, writing}
-use Rattle.ce_words.specs.Line.{asked_line}
+use Rattle.ce_words.specs.Line.{line_of_words}
 use Rattle.ce_script.specs.Load.{load}
 use Rattle.ce_run.specs.declared.run_end.RunEnd.{RunEnd}
 use Rattle.ce_run.specs.Promise.{HasEnded, HasFinished, HasScript}
@@ -26,7 +26,7 @@ returns-in-Ok-Some-clause-ended g c =
 
 pub returns-in-Ok-Some-clause-headline : goal.returns-in-Ok-Some-clause-headline
 returns-in-Ok-Some-clause-headline g c =
-    let line = asked_line (map string_bytes c.args.words.now) in
+    let line = line_of_words (map string_bytes c.args.words.now) in
     let source = reading g.S.Source.left g.S.Source.given g.S.Source.faults c.args.source.now c.args.source.now in
     let sink = writing g.K.Sink.written g.K.Sink.faults c.args.sink.now c.run_load.new.sink in
     let asked : Some c.in-Ok-Some.seed ≡ line.load = sym (c.in-Ok-Some.ensures.load ∙ c.in-Ok-Some.field-0-is) in
@@ -37,7 +37,7 @@ returns-in-Ok-Some-clause-headline g c =
 
 pub returns-in-Ok-clause-headline : goal.returns-in-Ok-clause-headline
 returns-in-Ok-clause-headline g c =
-    let line = asked_line (map string_bytes c.args.words.now) in
+    let line = line_of_words (map string_bytes c.args.words.now) in
     let source = reading g.S.Source.left g.S.Source.given g.S.Source.faults c.args.source.now c.read_source.new.source in
     let sink = writing g.K.Sink.written g.K.Sink.faults c.args.sink.now c.run_script.new.sink in
     let asked : None ≡ line.load = sym (c.in-Ok-None.ensures.load ∙ c.in-Ok-None.field-0-is) in

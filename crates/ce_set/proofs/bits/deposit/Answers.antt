@@ -1,10 +1,10 @@
-use Rattle.std.proofs.Common.{◌≡◌, ◌-◌, ◌%◌, ◌^◌, ◌<◌, refl, sym, ap, ◌∙◌, arith}
+use Rattle.std.proofs.Common.{◌≡◌, ◌-◌, ◌^◌, ◌<◌, refl, ap, arith}
 use Rattle.ce_model.specs.Limits.{greatest_dim, greatest_dim_lem}
 use Rattle.ce_model.specs.Subcubes.{deposit, deposited_bits, extract}
 use Rattle.ce_model.proofs.Subcubes.{deposited-below, deposited-part, extracted-deposited, deposited-rises}
-use Rattle.ce_set.proofs.Steps.{low_bit, low_bit_shifted, deposit_more_one, deposit_more_none, none_left}
+use Rattle.ce_set.proofs.Steps.{deposit_more_none, deposit_more_one, even_where_clear, odd_where_set, low_bit_shifted, none_left}
 use Rattle.ce_set.proofs.bits.deposit.Goals as goal
-use Rattle.ce_set.proofs.bits.deposit.Goals.{then-rest-eq1, else-rest-eq1}
+use Rattle.ce_set.proofs.bits.deposit.Goals.{then-mask_left-eq1, else-mask_left-eq1}
 
 pub loop-place-init : goal.loop-place-init
 loop-place-init c =
@@ -14,26 +14,23 @@ loop-place-init c =
 pub overflow_add-node : goal.overflow_add-node
 overflow_add-node c =
     let l = c.loop-place in
-    let one : l.rest % 2 ≡ 1 = sym (low_bit l.rest) ∙ c.if-rest-eq1.true in
-    omega (arith, low_bit_shifted l.left l.place (omega arith), deposit_more_one greatest_dim l.place l.node l.left l.rest (omega (arith, greatest_dim_lem)) one, l.invariant, deposited-below greatest_dim c.args.r c.args.mask, ap (λ n. 2 ^ n) greatest_dim_lem)
+    omega (arith, low_bit_shifted l.bits_left l.place (omega arith), deposit_more_one greatest_dim l.place l.node l.bits_left l.mask_left (omega (arith, greatest_dim_lem)) (odd_where_set l.mask_left c.if-mask_left-eq1.true), l.invariant, deposited-below greatest_dim c.args.r c.args.mask, ap (λ n. 2 ^ n) greatest_dim_lem)
 
 pub loop-place-preserved : goal.loop-place-preserved
 loop-place-preserved c =
     let l = c.loop-place in
     let below : l.place < greatest_dim = omega (arith, greatest_dim_lem) in
-    elim c.if-rest-eq1.branch [
-      | then-rest-eq1 w ↦
-          let one : l.rest % 2 ≡ 1 = sym (low_bit l.rest) ∙ w.if-rest-eq1.true in
-          rw (w.node-is, w.left-is, low_bit_shifted l.left l.place (omega arith), deposit_more_one greatest_dim l.place l.node l.left l.rest below one) l.invariant
-      | else-rest-eq1 w ↦
-          let none : l.rest % 2 ≡ 0 = omega (arith, low_bit l.rest, w.if-rest-eq1.false) in
-          rw (w.node-is, w.left-is, deposit_more_none greatest_dim l.place l.node l.left l.rest below none) l.invariant
+    elim c.if-mask_left-eq1.branch [
+      | then-mask_left-eq1 w ↦
+          rw (w.node-is, w.bits_left-is, low_bit_shifted l.bits_left l.place (omega arith), deposit_more_one greatest_dim l.place l.node l.bits_left l.mask_left below (odd_where_set l.mask_left w.if-mask_left-eq1.true)) l.invariant
+      | else-mask_left-eq1 w ↦
+          rw (w.node-is, w.bits_left-is, deposit_more_none greatest_dim l.place l.node l.bits_left l.mask_left below (even_where_clear l.mask_left w.if-mask_left-eq1.false)) l.invariant
     ]
 
 is_deposited : (c : goal.After-loop-place) → c.loop-place.node ≡ deposited_bits greatest_dim c.args.r c.args.mask
 is_deposited c =
     let l = c.loop-place in
-    none_left (λ bits. deposited_bits bits l.left l.rest) greatest_dim l.place (2 ^ l.place) l.node _ refl (omega (arith, greatest_dim_lem)) l.invariant
+    none_left (λ bits. deposited_bits bits l.bits_left l.mask_left) greatest_dim l.place (2 ^ l.place) l.node _ refl (omega (arith, greatest_dim_lem)) l.invariant
 
 pub returns-clause-value : goal.returns-clause-value
 unfolding deposit

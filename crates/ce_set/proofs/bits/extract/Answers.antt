@@ -1,10 +1,10 @@
-use Rattle.std.proofs.Common.{◌≡◌, ◌-◌, ◌%◌, ◌^◌, ◌<◌, refl, sym, ◌∙◌, arith}
+use Rattle.std.proofs.Common.{◌≡◌, ◌-◌, ◌^◌, ◌<◌, refl, arith}
 use Rattle.ce_model.specs.Limits.{greatest_dim, greatest_dim_lem}
 use Rattle.ce_model.specs.Subcubes.{deposit, extract, extracted_bits, ones_of}
 use Rattle.ce_model.proofs.Subcubes.{extracted-below, ones_of-bound, deposited-extracted, extracted-rises}
-use Rattle.ce_set.proofs.Steps.{low_bit, low_bit_shifted, extract_more_one, extract_more_none, none_left, pow_le}
+use Rattle.ce_set.proofs.Steps.{extract_more_none, extract_more_one, even_where_clear, odd_where_set, low_bit_shifted, none_left, pow_le}
 use Rattle.ce_set.proofs.bits.extract.Goals as goal
-use Rattle.ce_set.proofs.bits.extract.Goals.{then-rest-eq1, else-rest-eq1}
+use Rattle.ce_set.proofs.bits.extract.Goals.{then-mask_left-eq1, else-mask_left-eq1}
 
 pub loop-place-init : goal.loop-place-init
 loop-place-init c =
@@ -14,32 +14,29 @@ loop-place-init c =
 pub overflow_add-r : goal.overflow_add-r
 overflow_add-r c =
     let l = c.loop-place in
-    let one : l.rest % 2 ≡ 1 = sym (low_bit l.rest) ∙ c.if-rest-eq1.true in
-    omega (arith, low_bit_shifted l.left l.found (omega (arith, l.invariant.few)), extract_more_one greatest_dim l.place l.found l.r l.left l.rest (omega (arith, greatest_dim_lem)) one, l.invariant.whole, extracted-below greatest_dim c.args.node c.args.mask, pow_le (ones_of greatest_dim c.args.mask) 6 (omega (arith, ones_of-bound greatest_dim c.args.mask, greatest_dim_lem)))
+    omega (arith, low_bit_shifted l.bits_left l.bit_count (omega (arith, l.invariant.few)), extract_more_one greatest_dim l.place l.bit_count l.r l.bits_left l.mask_left (omega (arith, greatest_dim_lem)) (odd_where_set l.mask_left c.if-mask_left-eq1.true), l.invariant.whole, extracted-below greatest_dim c.args.node c.args.mask, pow_le (ones_of greatest_dim c.args.mask) 6 (omega (arith, ones_of-bound greatest_dim c.args.mask, greatest_dim_lem)))
 
 pub loop-place-preserved : goal.loop-place-preserved
 loop-place-preserved c =
     let l = c.loop-place in
     let below : l.place < greatest_dim = omega (arith, greatest_dim_lem) in
-    elim c.if-rest-eq1.branch [
-      | then-rest-eq1 w ↦
-          let one : l.rest % 2 ≡ 1 = sym (low_bit l.rest) ∙ w.if-rest-eq1.true in
+    elim c.if-mask_left-eq1.branch [
+      | then-mask_left-eq1 w ↦
           record {
-            whole = rw (w.r-is, w.found-is, low_bit_shifted l.left l.found (omega (arith, l.invariant.few)), extract_more_one greatest_dim l.place l.found l.r l.left l.rest below one) l.invariant.whole;
-            few = omega (arith, l.invariant.few, w.found-is);
+            whole = rw (w.r-is, w.bit_count-is, low_bit_shifted l.bits_left l.bit_count (omega (arith, l.invariant.few)), extract_more_one greatest_dim l.place l.bit_count l.r l.bits_left l.mask_left below (odd_where_set l.mask_left w.if-mask_left-eq1.true)) l.invariant.whole;
+            few = omega (arith, l.invariant.few, w.bit_count-is);
           }
-      | else-rest-eq1 w ↦
-          let none : l.rest % 2 ≡ 0 = omega (arith, low_bit l.rest, w.if-rest-eq1.false) in
+      | else-mask_left-eq1 w ↦
           record {
-            whole = rw (w.r-is, w.found-is, extract_more_none greatest_dim l.place l.found l.r l.left l.rest below none) l.invariant.whole;
-            few = omega (arith, l.invariant.few, w.found-is);
+            whole = rw (w.r-is, w.bit_count-is, extract_more_none greatest_dim l.place l.bit_count l.r l.bits_left l.mask_left below (even_where_clear l.mask_left w.if-mask_left-eq1.false)) l.invariant.whole;
+            few = omega (arith, l.invariant.few, w.bit_count-is);
           }
     ]
 
 is_extracted : (c : goal.After-loop-place) → c.loop-place.r ≡ extracted_bits greatest_dim c.args.node c.args.mask
 is_extracted c =
     let l = c.loop-place in
-    none_left (λ bits. extracted_bits bits l.left l.rest) greatest_dim l.place (2 ^ l.found) l.r _ refl (omega (arith, greatest_dim_lem)) l.invariant.whole
+    none_left (λ bits. extracted_bits bits l.bits_left l.mask_left) greatest_dim l.place (2 ^ l.bit_count) l.r _ refl (omega (arith, greatest_dim_lem)) l.invariant.whole
 
 pub returns-clause-value : goal.returns-clause-value
 unfolding extract

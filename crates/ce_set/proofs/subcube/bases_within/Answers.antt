@@ -4,7 +4,7 @@ use Rattle.ce_model.specs.Limits.{greatest_dim, greatest_dim_lem}
 use Rattle.ce_model.specs.Subcubes.{extract, extracted_bits, deposit, ones_of, is_base, are_all_nodes, subcube}
 use Rattle.ce_model.proofs.Subcubes.{all_nodes-at, all_nodes-each}
 use Rattle.ce_set.specs.Words.{has_bit}
-use Rattle.ce_set.proofs.Steps.{low_bit}
+use Rattle.ce_set.proofs.Steps.{even_where_clear, odd_where_set}
 use Rattle.ce_set.proofs.WordBits.{same_test}
 use Rattle.ce_set.proofs.Covers.{covers, covers-one, covers-none, covers-apart, covers-each, covers-from, half_shifted}
 use Rattle.ce_set.proofs.subcube.bases_within.Goals as goal
@@ -37,7 +37,7 @@ pub loop-place-preserved-then-mask-place-eq1 : goal.loop-place-preserved-then-ma
 loop-place-preserved-then-mask-place-eq1 c = λ n.
     let l = c.loop-place in
     let p = l.place - 1 in
-    let one : c.args.mask / 2 ^ p % 2 ≡ 1 = sym (low_bit (c.args.mask / 2 ^ p)) ∙ c.if-mask-place-eq1.true in
+    let one = odd_where_set (c.args.mask / 2 ^ p) c.if-mask-place-eq1.true in
     c.lower_halves-bases.ensures n
     ∙ rw (l.invariant n, l.invariant (n + 2 ^ p)) (one_more greatest_dim p l.place (has_bit c.args.set) c.args.mask n (omega arith) (omega (arith, greatest_dim_lem)) one)
 
@@ -45,7 +45,7 @@ pub loop-place-preserved : goal.loop-place-preserved
 loop-place-preserved c = λ n.
     let l = c.loop-place in
     let p = l.place - 1 in
-    let none : c.args.mask / 2 ^ p % 2 ≡ 0 = omega (arith, low_bit (c.args.mask / 2 ^ p), c.if-mask-place-eq1.false) in
+    let none = even_where_clear (c.args.mask / 2 ^ p) c.if-mask-place-eq1.false in
     l.invariant n ∙ none_more greatest_dim p l.place (has_bit c.args.set) c.args.mask n (omega arith) (omega (arith, greatest_dim_lem)) none
 
 -- once all places are done, the bases are those of the subcubes whose nodes all pass

@@ -12,7 +12,7 @@ use Rattle.ce_set.proofs.subcube.first_with.Goals as goal
 pub returns-then-bases-eq0 : goal.returns-then-bases-eq0
 returns-then-bases-eq0 c = λ dim within.
     let mask = c.args.mask in
-    let test = are_all_nodes (has_node c.args.free) (ones_of greatest_dim mask) in
+    let test = are_all_nodes (has_node c.args.free_nodes) (ones_of greatest_dim mask) in
     let both = λ (n : ℕ). is_base mask n && test (subcube mask n) in
     sym (find-none test (subcube mask) (is_base mask) 0 (2 ^ dim) (λ k below.
     let here : 0 + k ≡ k = omega arith in
@@ -24,13 +24,13 @@ returns c = λ dim within.
     let mask = c.args.mask in
     let bases = c.bases_within-bases.result in
     let base = trailing_zeros w64 bases in
-    let test = are_all_nodes (has_node c.args.free) (ones_of greatest_dim mask) in
+    let test = are_all_nodes (has_node c.args.free_nodes) (ones_of greatest_dim mask) in
     let both = λ (n : ℕ). is_base mask n && test (subcube mask n) in
     let lowest = bit_at-trailing_zeros w64 bases (omega (arith, c.if-bases-eq0.false)) c.bases_within-bases.type_inv in
     let same : 0 + base ≡ base = omega arith in
     let found : both base ≡ true = sym (c.bases_within-bases.ensures base) ∙ ap (λ x. x == 1) lowest.1 in
-    let free_there = all_nodes-at (has_node c.args.free) (ones_of greatest_dim mask) (subcube mask base) 0 (and_parts (is_base mask base) (test (subcube mask base)) found).1 (pow_pos (ones_of greatest_dim mask)) in
-    let below : base + deposit 0 mask < 2 ^ dim = below-has_bit c.args.free.0 (2 ^ dim) (base + deposit 0 mask) within free_there in
+    let free_there = all_nodes-at (has_node c.args.free_nodes) (ones_of greatest_dim mask) (subcube mask base) 0 (and_parts (is_base mask base) (test (subcube mask base)) found).1 (pow_pos (ones_of greatest_dim mask)) in
+    let below : base + deposit 0 mask < 2 ^ dim = below-has_bit c.args.free_nodes.0 (2 ^ dim) (base + deposit 0 mask) within free_there in
     let first = find-first test (subcube mask) (is_base mask) 0 (2 ^ dim) base (omega arith) (ap both same ∙ found) (λ i less.
     let here : 0 + i ≡ i = omega arith in
     ap both here ∙ sym (c.bases_within-bases.ensures i) ∙ ap (λ x. x == 1) (lowest.2 i less)) in

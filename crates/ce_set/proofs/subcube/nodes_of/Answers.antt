@@ -8,7 +8,7 @@ use Rattle.ce_model.specs.Limits.{greatest_dim, greatest_dim_lem}
 use Rattle.ce_model.specs.Subcubes.{extract, deposit, deposited_bits, is_inside, node_of}
 use Rattle.ce_model.proofs.Subcubes.{extract-below, node_of-extract, is_inside-node_of, is_inside-within}
 use Rattle.ce_set.specs.Words.{has_bit}
-use Rattle.ce_set.proofs.Steps.{low_bit}
+use Rattle.ce_set.proofs.Steps.{even_where_clear, odd_where_set}
 use Rattle.ce_set.proofs.WordBits.{same_test, has_bit-or, has_bit-up, has_bit-above}
 use Rattle.ce_set.proofs.Covers.{reaches, reaches-one, reaches-none, half_shifted, placed-reached, reaches-placed}
 use Rattle.ce_set.proofs.subcube.nodes_of.Goals as goal
@@ -52,7 +52,7 @@ loop-place-preserved-then-sub-place-eq1 c = λ n below.
     let l = c.loop-place in
     let sub = c.args.sub.now in
     let p = l.place - 1 in
-    let one : sub.mask / 2 ^ p % 2 ≡ 1 = sym (low_bit (sub.mask / 2 ^ p)) ∙ c.if-sub-place-eq1.true in
+    let one = odd_where_set (sub.mask / 2 ^ p) c.if-sub-place-eq1.true in
     let shift : 1 * 2 ^ p % 4294967296 ≡ 2 ^ p = one_shl p 32 (omega arith) in
     let moved : has_bit (bit_or l.nodes (l.nodes * 2 ^ (2 ^ p) % 18446744073709551616)) n ≡ (has_bit l.nodes n || (nat_le (2 ^ p) n && has_bit l.nodes (n - 2 ^ p))) =
     has_bit-or l.nodes (l.nodes * 2 ^ (2 ^ p) % 18446744073709551616) n ∙ ap (λ (t : Bool). has_bit l.nodes n || t) (has_bit-up l.nodes (2 ^ p) n below) in
@@ -65,7 +65,7 @@ loop-place-preserved c = λ n below.
     let l = c.loop-place in
     let sub = c.args.sub.now in
     let p = l.place - 1 in
-    let none : sub.mask / 2 ^ p % 2 ≡ 0 = omega (arith, low_bit (sub.mask / 2 ^ p), c.if-sub-place-eq1.false) in
+    let none = even_where_clear (sub.mask / 2 ^ p) c.if-sub-place-eq1.false in
     l.invariant n below ∙ none_more greatest_dim p l.place sub.mask sub.base n (omega arith) (omega (arith, greatest_dim_lem)) none
 
 -- once all places are done, the numbers that are reached are the nodes

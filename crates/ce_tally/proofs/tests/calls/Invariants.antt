@@ -1,5 +1,5 @@
-use Rattle.ce_lock.specs.Sitting.{IsOf}
+use Rattle.ce_lock.specs.Sitting.{IsSeatOf}
 use Rattle.ce_tally.proofs.tests.calls.Given as goal
 
 abbrev pub invariant-loop : goal.invariant-loop
-invariant-loop g l = IsOf l.book l.seat
+invariant-loop g l = IsSeatOf l.book l.seat

@@ -17,5 +17,5 @@ pub returns-in_default-Some-clause-words : goal.returns-in_default-Some-clause-w
 returns-in_default-Some-clause-words c =
     let parts = rw c.in_default-Some.is-1 at c.cut_at_blank.ensures.parts in
     let some = eqb-false _ _ (sym c.is_empty.ensures ∙ c.if-is_empty.false) in
-    let first = words_first c.args.line.now c.without_front_blanks-rest.result.now c.cut_at_blank.result.0.now (Some c.in_default-Some.behind.now) c.without_front_blanks-rest.ensures.value (omega arith) parts in
-    rw c.in_default-Some.behind-is first
+    let first = words_first c.args.line.now c.without_front_blanks-rest.result.now c.cut_at_blank.result.0.now (Some c.in_default-Some.others.now) c.without_front_blanks-rest.ensures.value (omega arith) parts in
+    rw c.in_default-Some.others-is first

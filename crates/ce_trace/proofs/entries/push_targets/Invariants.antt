@@ -6,4 +6,4 @@ use Rattle.ce_trace.proofs.entries.push_targets.Given as goal
 
 abbrev pub invariant-loop-target : goal.invariant-loop-target
 invariant-loop-target l =
-    l.text.items ≡ l.initial.text.items ++ flat_map (λ target. 44 ∷ target_text (place_inward l.sub target.0, block_inward l.sub target.1)) (take l.target-index l.further)
+    l.text.items ≡ l.initial.text.items ++ flat_map (λ target. 44 ∷ target_text (place_inward l.sub target.0, block_inward l.sub target.1)) (take l.target-index l.others)

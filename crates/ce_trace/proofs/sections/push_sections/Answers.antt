@@ -10,26 +10,26 @@ bounds-links-history c = omega (arith, ap length c.requires, length-links_of c.a
 
 pub push_trace-requires-clause-own : goal.push_trace-requires-clause-own
 push_trace-requires-clause-own c =
-    (behind_linked (cube_grant c.in-Some.grant) c.args.history.now c.args.links.now c.loop-at.at c.index-history-at.result c.requires (omega arith) c.index-history-at.is (sym c.in-Some.ensures.user)).own
+    (behind_linked (cube_grant c.in-Some.grant) c.args.history.now c.args.links.now c.loop-place.place c.index-history-place.result c.requires (omega arith) c.index-history-place.is (sym c.in-Some.ensures.user)).own
 
-pub loop-at-preserved : goal.loop-at-preserved
-loop-at-preserved c =
+pub loop-place-preserved : goal.loop-place-preserved
+loop-place-preserved c =
     let script = c.args.script.now in
     let run_record = c.args.run_record.now in
     let history = c.args.history.now in
-    let number = c.loop-at.number in
-    let at = c.loop-at.at in
-    let entry = c.index-history-at.result in
-    elim c.match-grant_by.branch [
+    let number = c.loop-place.number in
+    let at = c.loop-place.place in
+    let entry = c.index-history-place.result in
+    elim c.match-entry_grant_numbered.branch [
       | in-Some+in_ok-push_head+in_ok-push_trace w ↦
-          let own = behind_linked (cube_grant w.in-Some.grant) history c.args.links.now at entry c.requires (omega arith) c.index-history-at.is (sym w.in-Some.ensures.user) in
+          let own = behind_linked (cube_grant w.in-Some.grant) history c.args.links.now at entry c.requires (omega arith) c.index-history-place.is (sym w.in-Some.ensures.user) in
           record {
             counted = omega arith;
-            sections = rw (w.text-is, w.number-is) (ahead-some script run_record number history at entry w.in-Some.grant _ _ _ _ _ (omega arith) c.index-history-at.is w.in-Some.ensures.cube own c.loop-at.invariant.sections w.in_ok-push_head.ensures w.in_ok-push_trace.ensures);
+            sections = rw (w.text-is, w.number-is) (ahead-some script run_record number history at entry w.in-Some.grant _ _ _ _ _ (omega arith) c.index-history-place.is w.in-Some.ensures.cube own c.loop-place.invariant.sections w.in_ok-push_head.ensures w.in_ok-push_trace.ensures);
           }
       | in_default w ↦
           record {
             counted = omega arith;
-            sections = rw (w.text-is, w.number-is) (ap (λ later. c.loop-at.text.items ++ later) (sym (ahead-none script run_record number history at entry (omega arith) c.index-history-at.is (sym w.in_default.is ∙ c.grant_by.ensures.cube))) ∙ c.loop-at.invariant.sections);
+            sections = rw (w.text-is, w.number-is) (ap (λ later. c.loop-place.text.items ++ later) (sym (ahead-none script run_record number history at entry (omega arith) c.index-history-place.is (sym w.in_default.is ∙ c.entry_grant_numbered.ensures.cube))) ∙ c.loop-place.invariant.sections);
           }
     ]

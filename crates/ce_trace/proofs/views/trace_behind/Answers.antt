@@ -8,7 +8,7 @@ use Rattle.ce_trace.proofs.views.trace_behind.Goals.{then-entry-grant+else-is_dr
 pub loop-entry-preserved : goal.loop-entry-preserved
 loop-entry-preserved c =
     let cube = cube_grant c.args.grant.now in
-    let behind = c.args.behind.now in
+    let behind = c.args.later_entries.now in
     let i = c.loop-entry.entry-index in
     let entry = c.entry-item.result in
     elim c.if-entry-grant.branch [

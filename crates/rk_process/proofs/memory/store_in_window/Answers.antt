@@ -4,14 +4,14 @@ use Rattle.rk_process.proofs.memory.store_in_window.Goals as goal
 
 pub returns-in-Some-get_mut-clause-stored : goal.returns-in-Some-get_mut-clause-stored
 returns-in-Some-get_mut-clause-stored c =
-    let place = place-tells c.args.windows.used_count c.args.addr c.in-Some.window c.in-Some.offset c.in-Some.ensures.place in
-    store-done c.args.held_blocks.now c.args.windows.pid c.args.windows.used_count c.args.addr c.args.size.bytes c.args.value c.in-Some.window c.in-Some-get_mut.block.now c.store_in_block.new.block
+    let place = place-tells c.args.windows.used_count c.args.address c.in-Some.window c.in-Some.offset c.in-Some.ensures.place in
+    store-done c.args.held_blocks.now c.args.windows.pid c.args.windows.used_count c.args.address c.args.size.bytes c.args.value c.in-Some.window c.in-Some-get_mut.block.now c.store_in_block.new.block
     place.0 place.1 (sym c.in-Some-get_mut.ensures.block) c.store_in_block.result (c.in-Some.ensures.found _ _) c.store_in_block.ensures.stored
 
 pub returns-in-Some-get_mut-clause-unchanged : goal.returns-in-Some-get_mut-clause-unchanged
 returns-in-Some-get_mut-clause-unchanged c =
-    let place = place-tells c.args.windows.used_count c.args.addr c.in-Some.window c.in-Some.offset c.in-Some.ensures.place in
-    store-refused c.args.held_blocks.now c.args.windows.pid c.args.windows.used_count c.args.addr c.args.size.bytes c.args.value c.in-Some.window c.in-Some-get_mut.block.now c.store_in_block.new.block
+    let place = place-tells c.args.windows.used_count c.args.address c.in-Some.window c.in-Some.offset c.in-Some.ensures.place in
+    store-refused c.args.held_blocks.now c.args.windows.pid c.args.windows.used_count c.args.address c.args.size.bytes c.args.value c.in-Some.window c.in-Some-get_mut.block.now c.store_in_block.new.block
     place.0 place.1 (sym c.in-Some-get_mut.ensures.block) c.store_in_block.result c.store_in_block.ensures.unchanged
 
 pub returns-in-Some-get_mut-clause-rest : goal.returns-in-Some-get_mut-clause-rest

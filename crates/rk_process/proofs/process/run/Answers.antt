@@ -1,6 +1,6 @@
 use Rattle.std.proofs.Common.{◌≡◌, ◌-◌, suc, sym, ap, ◌∙◌, arith}
 use Rattle.rv_model.specs.Exec.{next_state, call_state, stop_state}
-use Rattle.ce_model.specs.Process.{at_stop}
+use Rattle.ce_model.specs.Process.{stop_end}
 use Rattle.rk_process.specs.Runs.{process_of_parts}
 use Rattle.rk_process.specs.Memories.{memory_space}
 use Rattle.rk_process.proofs.Reaching.{reached_by, reached_spent}
@@ -12,7 +12,7 @@ loop-remaining-preserved c =
     let e : s.remaining ≡ suc (s.remaining - 1) = omega arith in
     record {
       same = λ status. c.loop-remaining.invariant.same status
-          ∙ reached_by s.remaining (s.remaining - 1) (process_of_parts status s.registers.x s.at (memory_space s.memory)) (next_state c.step.new.regs.x c.step.new.pc (memory_space c.step.new.memory)) e (sym c.in-Went.ensures.done);
+          ∙ reached_by s.remaining (s.remaining - 1) (process_of_parts status s.registers.x s.next_pc (memory_space s.memory)) (next_state c.step.new.registers.x c.step.new.pc (memory_space c.step.new.memory)) e (sym c.in-Advance.ensures.done);
       rest = c.step.ensures.rest ∙ c.loop-remaining.invariant.rest;
     }
 
@@ -21,7 +21,7 @@ returns-in-Call-clause-reached c status =
     let s = c.loop-remaining in
     let e : s.remaining ≡ suc (s.remaining - 1) = omega arith in
     c.loop-remaining.invariant.same status
-    ∙ reached_by s.remaining (s.remaining - 1) (process_of_parts status s.registers.x s.at (memory_space s.memory)) (call_state c.step.new.regs.x c.step.new.pc (memory_space c.step.new.memory)) e (sym c.in-Call.ensures.done)
+    ∙ reached_by s.remaining (s.remaining - 1) (process_of_parts status s.registers.x s.next_pc (memory_space s.memory)) (call_state c.step.new.registers.x c.step.new.pc (memory_space c.step.new.memory)) e (sym c.in-Call.ensures.done)
 
 pub returns-in-Stopped-clause-reached : goal.returns-in-Stopped-clause-reached
 returns-in-Stopped-clause-reached c status =
@@ -29,13 +29,13 @@ returns-in-Stopped-clause-reached c status =
     let e : s.remaining ≡ suc (s.remaining - 1) = omega arith in
     let stays = c.in-Stopped.ensures in
     c.loop-remaining.invariant.same status
-    ∙ reached_by s.remaining (s.remaining - 1) (process_of_parts status s.registers.x s.at (memory_space s.memory)) (stop_state c.in-Stopped.cause) e (sym stays.done)
-    ∙ ap (λ regs. at_stop (s.remaining - 1) (process_of_parts status regs s.at (memory_space s.memory)) c.in-Stopped.cause) (sym stays.regs_stay)
-    ∙ ap (λ pc. at_stop (s.remaining - 1) (process_of_parts status c.step.new.regs.x pc (memory_space s.memory)) c.in-Stopped.cause) (sym stays.pc_stays)
-    ∙ ap (λ space. at_stop (s.remaining - 1) (process_of_parts status c.step.new.regs.x c.step.new.pc space) c.in-Stopped.cause) (sym stays.memory_stays)
+    ∙ reached_by s.remaining (s.remaining - 1) (process_of_parts status s.registers.x s.next_pc (memory_space s.memory)) (stop_state c.in-Stopped.cause) e (sym stays.done)
+    ∙ ap (λ registers. stop_end (s.remaining - 1) (process_of_parts status registers s.next_pc (memory_space s.memory)) c.in-Stopped.cause) (sym stays.registers_stay)
+    ∙ ap (λ pc. stop_end (s.remaining - 1) (process_of_parts status c.step.new.registers.x pc (memory_space s.memory)) c.in-Stopped.cause) (sym stays.pc_stays)
+    ∙ ap (λ space. stop_end (s.remaining - 1) (process_of_parts status c.step.new.registers.x c.step.new.pc space) c.in-Stopped.cause) (sym stays.memory_stays)
 
 pub returns-clause-reached : goal.returns-clause-reached
 returns-clause-reached c status =
     let s = c.loop-remaining in
     let e : s.remaining ≡ 0 = omega arith in
-    c.loop-remaining.invariant.same status ∙ reached_spent s.remaining (process_of_parts status s.registers.x s.at (memory_space s.memory)) e
+    c.loop-remaining.invariant.same status ∙ reached_spent s.remaining (process_of_parts status s.registers.x s.next_pc (memory_space s.memory)) e

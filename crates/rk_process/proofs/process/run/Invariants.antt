@@ -7,8 +7,8 @@ use Rattle.rk_process.proofs.process.run.Given as goal
 
 abbrev pub invariant-loop-remaining : goal.invariant-loop-remaining
 invariant-loop-remaining l = record {
-  same : (status : Status) → turn_end l.fn.left (process_of_parts status l.fn.registers.x l.fn.pc (memory_space l.fn.memory))
-      ≡ turn_end l.remaining (process_of_parts status l.registers.x l.at (memory_space l.memory));
+  same : (status : Status) → turn_end l.fn.instructions_left (process_of_parts status l.fn.registers.x l.fn.pc (memory_space l.fn.memory))
+      ≡ turn_end l.remaining (process_of_parts status l.registers.x l.next_pc (memory_space l.memory));
   rest : memory_rest l.memory ≡ memory_rest l.fn.memory;
 }
 

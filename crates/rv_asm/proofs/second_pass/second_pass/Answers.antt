@@ -8,7 +8,7 @@ use Rattle.rv_asm.specs.Faults.{◌>>=◌, IsHaltOf}
 use Rattle.rv_asm.specs.FirstPass.{judgment_at_line}
 use Rattle.rv_asm.specs.SecondPass.{parts_of, second_pass}
 use Rattle.rv_asm.proofs.Stopping.{stops_all}
-use Rattle.rv_asm.proofs.Putting.{put_none, put_step, put_more, put_all, onward, sound_at}
+use Rattle.rv_asm.proofs.Putting.{put_none, put_step, put_more, put_all, result_with_front, sound_at}
 use Rattle.rv_asm.proofs.second_pass.second_pass.Goals as goal
 
 pub loop-placed-init : goal.loop-placed-init
@@ -36,10 +36,10 @@ returns-in-Err-clause-parts c =
     let stopped = subst (λ (n : ℕ). IsHaltOf c.in-Err.halt (parts_of names (PRIVATE_START + n) d.statement)) (sym len) c.in-Err.ensures.parts in
     let step = put_step names all i d out (omega arith) before in
     let step_here = subst
-    (λ (p : PlacedStatement). second_pass names PRIVATE_START all ≡ (judgment_at_line p.line (parts_of names (PRIVATE_START + length out) p.statement) >>= onward names (PRIVATE_START + length out + size_of p.statement) (drop (i + 1) all) before.parts))
+    (λ (p : PlacedStatement). second_pass names PRIVATE_START all ≡ (judgment_at_line p.line (parts_of names (PRIVATE_START + length out) p.statement) >>= result_with_front names (PRIVATE_START + length out + size_of p.statement) (drop (i + 1) all) before.parts))
     (sym item) step in
-    rw c.at.ensures
-    (stops_all c.in-Err.halt d.line (parts_of names (PRIVATE_START + length out) d.statement) (onward names (PRIVATE_START + length out + size_of d.statement) (drop (i + 1) all) before.parts)
+    rw c.fault_of_line.ensures
+    (stops_all c.in-Err.halt d.line (parts_of names (PRIVATE_START + length out) d.statement) (result_with_front names (PRIVATE_START + length out + size_of d.statement) (drop (i + 1) all) before.parts)
     (second_pass names PRIVATE_START all) step_here stopped)
 
 pub loop-placed-preserved : goal.loop-placed-preserved

@@ -7,15 +7,15 @@ use Rattle.ce_model.specs.Subcubes.{has_node, IsSubcube}
 use Rattle.ce_model.proofs.Subcubes.{find-among, node_of-within}
 use Rattle.ce_set.proofs.WordBits.{word-below}
 use Rattle.ce_daemon.specs.declared.grant.Grant.{Grant}
-use Rattle.ce_daemon.specs.Boxes.{AreBoxesOf}
-use Rattle.ce_daemon.specs.Holding.{is_user}
+use Rattle.ce_daemon.specs.Boxes.{AreGrantBoxes}
+use Rattle.ce_daemon.specs.Holding.{is_grant_of}
 use Rattle.ce_daemon.proofs.Sound.{IsSubcube-larger, IsSound-freed}
 use Rattle.ce_daemon.proofs.daemon.Daemon.freecube.Goals as goal
 
 -- the grant that is found is a subcube of the machine
-known : (dim user : ℕ) (held : List Grant) (grant : Grant) → All (λ (one : Grant). IsSubcube dim one.dim one.sub) held → Some grant ≡ find (is_user user) held
+known : (dim user : ℕ) (held : List Grant) (grant : Grant) → All (λ (one : Grant). IsSubcube dim one.dim one.sub) held → Some grant ≡ find (is_grant_of user) held
     → IsSubcube dim grant.dim grant.sub
-known dim user held grant all found = find-among (λ (one : Grant). IsSubcube dim one.dim one.sub) (is_user user) held grant all (sym found)
+known dim user held grant all found = find-among (λ (one : Grant). IsSubcube dim one.dim one.sub) (is_grant_of user) held grant all (sym found)
 
 pub nodes_of-requires-clause-mask_within : goal.nodes_of-requires-clause-mask_within
 nodes_of-requires-clause-mask_within g c =
@@ -36,10 +36,10 @@ nodes_of-requires-clause-apart g c =
     eq-eqb _ _ is.apart
 
 -- the boxes are those of the grant that is found
-boxes_of : {N : Type 0} (home : N → ℕ) (clean : N → Type 0) (boxes : List N) (grant : Grant) (found : Option Grant) → IsSomeAnd found (λ one. AreBoxesOf home clean one boxes)
-    → Some grant ≡ found → AreBoxesOf home clean grant boxes
+boxes_of : {N : Type 0} (home : N → ℕ) (clean : N → Type 0) (boxes : List N) (grant : Grant) (found : Option Grant) → IsSomeAnd found (λ one. AreGrantBoxes home clean one boxes)
+    → Some grant ≡ found → AreGrantBoxes home clean grant boxes
 boxes_of home clean boxes grant found are same =
-    let P : Option Grant → Type 0 = λ o. IsSomeAnd o (λ one. AreBoxesOf home clean one boxes) in
+    let P : Option Grant → Type 0 = λ o. IsSomeAnd o (λ one. AreGrantBoxes home clean one boxes) in
     subst P (sym same) are
 
 pub put_home-requires-clause-at_home : goal.put_home-requires-clause-at_home

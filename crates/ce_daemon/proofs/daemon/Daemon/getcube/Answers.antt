@@ -4,7 +4,7 @@ use Rattle.std.proofs.lemmas.Nat.{one_shl}
 use Rattle.ce_model.specs.declared.topology.NodeSet.{NodeSet}
 use Rattle.ce_model.specs.declared.topology.Subcube.{Subcube}
 use Rattle.ce_model.specs.Limits.{greatest_dim, greatest_dim_lem}
-use Rattle.ce_model.specs.Subcubes.{has_node, node_of, first_free, IsSubcube}
+use Rattle.ce_model.specs.Subcubes.{has_node, node_of, first_free_subcube, IsSubcube}
 use Rattle.ce_model.proofs.Subcubes.{all_nodes-at, first_free-subcube, first_free-all_free, node_of-within, ones_of-bound}
 use Rattle.ce_daemon.proofs.Partition.{first_free-partition}
 use Rattle.ce_daemon.proofs.Sound.{IsSubcube-larger, IsSound-granted}
@@ -21,7 +21,7 @@ returns-clause-first g c =
     rw (← c.self.view_is) (sym c.in-Some.is ∙ c.first_free.ensures ∙ first_free-partition d.dim c.args.d d.grants.items d.free_nodes c.self.invariant.partition)
 
 -- what is found is a subcube of each machine that is as large
-known : (free : NodeSet) (dim d : ℕ) (sub : Subcube) (found : Option Subcube) → dim ≤ greatest_dim → found ≡ first_free (has_node free) dim d → found ≡ Some sub → IsSubcube greatest_dim d sub
+known : (free : NodeSet) (dim d : ℕ) (sub : Subcube) (found : Option Subcube) → dim ≤ greatest_dim → found ≡ first_free_subcube (has_node free) dim d → found ≡ Some sub → IsSubcube greatest_dim d sub
 known free dim d sub found small is same = IsSubcube-larger dim greatest_dim d sub small (first_free-subcube (has_node free) dim d sub (sym is ∙ same))
 
 few : (d : ℕ) (sub : Subcube) → IsSubcube greatest_dim d sub → d ≤ 6

@@ -1,7 +1,6 @@
-use Rattle.std.proofs.Common.{◌∙◌, arith}
 use Rattle.ce_lock.proofs.Comings.{meets}
 use Rattle.ce_lock.proofs.board.ChairAtBoard.meet_copy.Goals as goal
 
-pub join_seat-requires : goal.join_seat-requires
-join_seat-requires g c = let idle = c.requires.idle in
-    (c.args.self.now.at_table, idle.same_table ∙ c.args.self.now.at_table, idle.hand, omega (arith, c.args.self.now.board.now.sized.0), meets _ _ _ _ _ _ _ idle.places.0 c.requires.live idle.places.1 c.requires.copied)
+pub join-requires-clause-allowed : goal.join-requires-clause-allowed
+join-requires-clause-allowed g c = let idle = c.requires.idle in
+    meets _ _ _ _ _ _ _ idle.places.0 c.requires.live idle.places.1 c.requires.copied

@@ -43,21 +43,13 @@ give-requires-in-Err-clause-object g c = let took = c.take.ensures.took in let a
     let b = unchanged _ _ _ _ at took a.0 a.1 c.requires.ready.hand a.2 _ a.3 a.4.answered.0 in
     (a.1, took.opening, acted_hand _ _ _ _ at took a.0 a.1 c.requires.ready.hand a.2 _ a.3, acted_opening _ _ _ _ at took a.0 a.1 c.requires.ready.hand a.2 _ a.3, b.0, b.1)
 
-pub returns-in-Ok-clause-hand : goal.returns-in-Ok-clause-hand
-returns-in-Ok-clause-hand g c = let a = c.in-Ok.ensures.answered in let made = a.4.answered in
-    (given _ _ _ _ c.requires.turn.1 c.take.ensures.took a.0 a.1 c.requires.ready.hand a.2 _ a.3 made.0 made.1 _ c.commit.ensures.committed _ c.give.ensures.gave).1
-
 pub returns-in-Ok-clause-turn : goal.returns-in-Ok-clause-turn
 returns-in-Ok-clause-turn g c = let took = c.take.ensures.took in let at = c.requires.turn.1 in let a = c.in-Ok.ensures.answered in let made = a.4.answered in
     let law = g.met.O.Kept.stands_for _ _ _ _ _ _ made.2 in
     let last = given _ _ _ _ at took a.0 a.1 c.requires.ready.hand a.2 _ a.3 made.0 made.1 _ c.commit.ensures.committed _ c.give.ensures.gave in
-    turn_made _ _ _ _ at took a.0 a.1 c.requires.ready.hand a.2 _ a.3 made.0 made.1 _ g.O.Kept.stands c.args.request.who c.args.request.call c.in-Ok.reply c.requires.ready.who_is made.3 made.4 law.0 made.2 _ last.0 _ refl
-
-pub returns-in-Err-clause-hand : goal.returns-in-Err-clause-hand
-returns-in-Err-clause-hand g c = let a = c.in-Err.ensures.answered in
-    (refused _ _ _ _ c.requires.turn.1 c.take.ensures.took a.0 a.1 c.requires.ready.hand a.2 _ a.3 _ c.give-in-Err.ensures.gave).1
+    turn_made _ _ _ _ at took a.0 a.1 c.requires.ready.hand a.2 _ a.3 made.0 made.1 _ g.O.Kept.stands c.args.request.who c.args.request.call c.in-Ok.reply c.requires.ready.who_is made.3 made.4 law.0 made.2 _ last.0 last.1 _ refl
 
 pub returns-in-Err-clause-turn : goal.returns-in-Err-clause-turn
 returns-in-Err-clause-turn g c = let took = c.take.ensures.took in let a = c.in-Err.ensures.answered in
     let last = refused _ _ _ _ c.requires.turn.1 took a.0 a.1 c.requires.ready.hand a.2 _ a.3 _ c.give-in-Err.ensures.gave in
-    turn_refused _ _ _ _ c.requires.turn.1 took g.O.Kept.stands c.args.request.call c.in-Err.back took.short a.4.answered.1 _ last.0 _ refl
+    turn_refused _ _ _ _ c.requires.turn.1 took g.O.Kept.stands c.args.request.call c.in-Err.refusal took.short a.4.answered.1 _ last.0 last.1 _ refl

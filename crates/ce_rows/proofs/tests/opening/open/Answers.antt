@@ -8,7 +8,7 @@ use Rattle.ce_rows.proofs.tests.opening.open.Goals as goal
 
 pub new-requires-clause-machine : goal.new-requires-clause-machine
 new-requires-clause-machine g c =
-    subst IsMachine (sym (parts-are c.args.row _ _ _ c.dim_of-dim.ensures c.users_of-users.ensures c.in_ok-kept.ensures)) (is-machine c.args.row)
+    subst IsMachine (sym (parts-are c.args.row _ _ _ c.dim_of-dim.ensures c.users_of-users.ensures c.in_ok-images.ensures)) (is-machine c.args.row)
 
 pub new-requires-clause-boxes : goal.new-requires-clause-boxes
 new-requires-clause-boxes g c =
@@ -16,6 +16,6 @@ new-requires-clause-boxes g c =
 
 pub returns : goal.returns
 returns g c = record {
-  parts_are = ap (λ (m : MachineFacts). m.parts) c.in_ok-machine.ensures ∙ parts-are c.args.row _ _ _ c.dim_of-dim.ensures c.users_of-users.ensures c.in_ok-kept.ensures;
+  parts_are = ap (λ (m : MachineFacts). m.parts) c.in_ok-machine.ensures ∙ parts-are c.args.row _ _ _ c.dim_of-dim.ensures c.users_of-users.ensures c.in_ok-images.ensures;
   history_is = ap (λ (m : MachineFacts). m.history) c.in_ok-machine.ensures;
 }

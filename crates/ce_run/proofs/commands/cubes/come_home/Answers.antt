@@ -8,7 +8,7 @@ pub rehome-requires : goal.rehome-requires
 rehome-requires c = record {
   all = (
     cube_grant c.args.crew.grant,
-    subst (λ boxes. HasAllBlocks (cube_grant c.args.crew.grant) boxes c.args.crew.host c.args.drained.items)
+    subst (λ boxes. HasAllBlocks (cube_grant c.args.crew.grant) boxes c.args.crew.host c.args.drained_blocks.items)
         (sym c.as_mut_slice.ensures.value) c.requires,
   );
 }
@@ -17,6 +17,6 @@ pub returns : goal.returns
 returns c =
     let grant = cube_grant c.args.crew.grant in
     let home = c.rehome.ensures.home grant
-    (subst (λ boxes. HasAllBlocks grant boxes c.args.crew.host c.args.drained.items) (sym c.as_mut_slice.ensures.value) c.requires) in
+    (subst (λ boxes. HasAllBlocks grant boxes c.args.crew.host c.args.drained_blocks.items) (sym c.as_mut_slice.ensures.value) c.requires) in
     subst (λ boxes. AreAllHome grant boxes c.rehome.new.host)
     (sym (take_at c.rehome.new.nodes _ c.args.crew.nodes.len (home.0.all ∙ sym c.requires.all ∙ sym c.args.crew.nodes.ok.0))) home

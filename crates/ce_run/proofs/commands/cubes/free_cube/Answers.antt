@@ -7,24 +7,24 @@ pub drain-requires-clause-holds : goal.drain-requires-clause-holds
 drain-requires-clause-holds c = has-cube c.args.machine.now (serial_facts c.args.crew) c.requires.user c.requires.in_step
 
 pub come_home-boxes-requires : goal.come_home-boxes-requires
-come_home-boxes-requires c = all-there c.args.machine.now (serial_facts c.args.crew) c.requires.user c.requires.in_step c.drain.new.machine c.in_ok-drained.drained.items c.in_ok-drained.ensures
+come_home-boxes-requires c = all-there c.args.machine.now (serial_facts c.args.crew) c.requires.user c.requires.in_step c.drain.new.machine c.in_ok-drained_blocks.drained_blocks.items c.in_ok-drained_blocks.ensures
 
 pub ask-requires-clause-machine : goal.ask-requires-clause-machine
 ask-requires-clause-machine c =
-    sound-behind c.args.machine.now (serial_facts c.args.crew) c.requires.user c.requires.in_step c.drain.new.machine c.in_ok-drained.drained.items c.in_ok-drained.ensures
+    sound-behind c.args.machine.now (serial_facts c.args.crew) c.requires.user c.requires.in_step c.drain.new.machine c.in_ok-drained_blocks.drained_blocks.items c.in_ok-drained_blocks.ensures
 
 pub ask-requires-clause-fits : goal.ask-requires-clause-fits
 ask-requires-clause-fits c =
-    freecube-fits c.args.machine.now (serial_facts c.args.crew) c.requires.user c.requires.in_step c.drain.new.machine c.in_ok-drained.drained.items c.in_ok-drained.ensures
+    freecube-fits c.args.machine.now (serial_facts c.args.crew) c.requires.user c.requires.in_step c.drain.new.machine c.in_ok-drained_blocks.drained_blocks.items c.in_ok-drained_blocks.ensures
     c.come_home-boxes.result.0 c.come_home-boxes.result.1 c.come_home-boxes.ensures
 
 pub unreachable-requires : goal.unreachable-requires
 unreachable-requires c =
     c.in_default.not-Freed
-    (free-reply c.args.machine.now (serial_facts c.args.crew) c.requires.user c.requires.in_step c.drain.new.machine c.in_ok-drained.drained.items c.in_ok-drained.ensures
+    (free-reply c.args.machine.now (serial_facts c.args.crew) c.requires.user c.requires.in_step c.drain.new.machine c.in_ok-drained_blocks.drained_blocks.items c.in_ok-drained_blocks.ensures
     c.come_home-boxes.result.0 c.come_home-boxes.result.1 c.come_home-boxes.ensures c.ask.new.machine c.in_ok-ask.field-0 c.in_ok-ask.ensures)
 
 pub returns : goal.returns
 returns c =
-    freed-done c.args.machine.now (serial_facts c.args.crew) c.requires.user c.requires.in_step c.drain.new.machine c.in_ok-drained.drained.items c.in_ok-drained.ensures
+    freed-done c.args.machine.now (serial_facts c.args.crew) c.requires.user c.requires.in_step c.drain.new.machine c.in_ok-drained_blocks.drained_blocks.items c.in_ok-drained_blocks.ensures
     c.come_home-boxes.result.0 c.come_home-boxes.result.1 c.come_home-boxes.ensures c.ask.new.machine c.in_ok-ask.field-0 c.in_ok-ask.ensures serial

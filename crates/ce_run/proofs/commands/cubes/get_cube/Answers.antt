@@ -14,7 +14,7 @@ unreachable-requires c =
     c.in_default.not-NoneFree c.in_default.not-Granted
 
 pub overflow_cast-images : goal.overflow_cast-images
-overflow_cast-images c = omega (arith, ap length c.requires.ready.images_are, c.requires.ready.user_is.book.within.images, greatest_images_lem)
+overflow_cast-images c = omega (arith, ap length c.requires.ready.images_are, c.requires.ready.user_is.sound.within.images, greatest_images_lem)
 
 pub new-crew-requires-clause-boxes : goal.new-crew-requires-clause-boxes
 new-crew-requires-clause-boxes c =
@@ -32,7 +32,7 @@ new-crew-requires-clause-dim c =
     c.in-Granted.grant c.in-Granted.boxes c.in-Granted.is
 
 pub new-crew-requires-clause-images : goal.new-crew-requires-clause-images
-new-crew-requires-clause-images c = omega (arith, ap length c.requires.ready.images_are, c.requires.ready.user_is.book.within.images)
+new-crew-requires-clause-images c = omega (arith, ap length c.requires.ready.images_are, c.requires.ready.user_is.sound.within.images)
 
 pub returns-in-NoneFree : goal.returns-in-NoneFree
 returns-in-NoneFree c =
@@ -43,4 +43,4 @@ pub returns-in-Granted : goal.returns-in-Granted
 returns-in-Granted c =
     granted-done c.args.machine.now c.args.user c.args.dim c.requires.ready.user_is c.requires.ready.free c.requires.dim c.ask.new.machine c.in_ok-grant.field-0 c.in_ok-grant.ensures
     c.in-Granted.grant c.in-Granted.boxes c.in-Granted.is serial (serial_facts c.new-crew.result) c.new-crew.ensures.grant
-    (c.new-crew.ensures.in_step c.args.machine.now.parts c.ask.new.machine.history c.requires.ready.user_is.book.within (sym (ap length c.requires.ready.images_are)))
+    (c.new-crew.ensures.in_step c.args.machine.now.parts c.ask.new.machine.history c.requires.ready.user_is.sound.within (sym (ap length c.requires.ready.images_are)))

@@ -17,9 +17,9 @@ unreachable-requires c =
     let crew = crew-stays serial c.args.machine.now c.run_rounds.new.machine (serial_facts c.args.crew.now) (serial_facts c.run_rounds.new.crew) _
     c.in_ok-run_rounds.ensures.goes_on c.requires.crew_is in
     not-busy serial c.run_rounds.new.machine c.look.new.machine (serial_facts c.run_rounds.new.crew) (serial_facts c.look.new.crew) c.in_ok-look.field-0
-    crew.user.book crew.in_step
+    crew.user.sound crew.in_step
     c.in_ok-look.ensures
-    (rests-behind-rounds serial c.args.machine.now c.run_rounds.new.machine (serial_facts c.args.crew.now) (serial_facts c.run_rounds.new.crew) crew.user.book
+    (rests-behind-rounds serial c.args.machine.now c.run_rounds.new.machine (serial_facts c.args.crew.now) (serial_facts c.run_rounds.new.crew) crew.user.sound
     c.in_ok-run_rounds.ensures) c.in-Busy.is
 
 pub returns-in-Quiet : goal.returns-in-Quiet
@@ -27,11 +27,11 @@ returns-in-Quiet c =
     λ before first count has allowed.
     run-done serial before c.args.machine.now c.run_rounds.new.machine c.look.new.machine first (serial_facts c.args.crew.now)
     (serial_facts c.run_rounds.new.crew) (serial_facts c.look.new.crew)
-    count c.in_ok-look.field-0 Quiet has.user.book has.in_step allowed c.in_ok-run_rounds.ensures c.in_ok-look.ensures (ap run_reply c.in-Quiet.is)
+    count c.in_ok-look.field-0 Quiet has.user.sound has.in_step allowed c.in_ok-run_rounds.ensures c.in_ok-look.ensures (ap run_reply c.in-Quiet.is)
 
 pub returns-in-Spent : goal.returns-in-Spent
 returns-in-Spent c =
     λ before first count has allowed.
     run-done serial before c.args.machine.now c.run_rounds.new.machine c.look.new.machine first (serial_facts c.args.crew.now)
     (serial_facts c.run_rounds.new.crew) (serial_facts c.look.new.crew)
-    count c.in_ok-look.field-0 Spent has.user.book has.in_step allowed c.in_ok-run_rounds.ensures c.in_ok-look.ensures (ap run_reply c.in-Spent.is)
+    count c.in_ok-look.field-0 Spent has.user.sound has.in_step allowed c.in_ok-run_rounds.ensures c.in_ok-look.ensures (ap run_reply c.in-Spent.is)

@@ -6,11 +6,11 @@ use Rattle.ce_run.proofs.Going.{images-stay, no-round, one-round-more, rounds-ov
 use Rattle.ce_run.proofs.commands.running.run_rounds.Goals as goal
 
 pub rounds-init : goal.rounds-init
-rounds-init c = no-round serial c.args.machine.now (serial_facts c.args.crew.now) c.requires.crew_is.user.book c.requires.crew_is.in_step
+rounds-init c = no-round serial c.args.machine.now (serial_facts c.args.crew.now) c.requires.crew_is.user.sound c.requires.crew_is.in_step
 
 pub round_serial-requires-clause-machine : goal.round_serial-requires-clause-machine
 round_serial-requires-clause-machine c =
-    still-sound serial c.args.machine.now c.rounds.machine (serial_facts c.args.crew.now) (serial_facts c.rounds.crew) _ c.requires.crew_is.user.book c.rounds.invariant.goes_on
+    still-sound serial c.args.machine.now c.rounds.machine (serial_facts c.args.crew.now) (serial_facts c.rounds.crew) _ c.requires.crew_is.user.sound c.rounds.invariant.goes_on
 
 pub round_serial-requires-clause-images : goal.round_serial-requires-clause-images
 round_serial-requires-clause-images c =

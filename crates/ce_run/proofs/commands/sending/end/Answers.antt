@@ -3,22 +3,22 @@ use Rattle.ce_model.specs.Node.{kill_call}
 use Rattle.ce_host.specs.declared.command.Command.TheVariants.{Kill}
 use Rattle.ce_cube.specs.Crews.{serial_facts}
 use Rattle.ce_script.specs.Rounds.{serial}
-use Rattle.ce_run.specs.UserStates.{HasDone, HasTold, own_crew}
+use Rattle.ce_run.specs.UserStates.{HasDone, HasToldHost, own_crew}
 use Rattle.ce_run.proofs.StatesBehind.{if-ok, no-place-done, may-end}
 use Rattle.ce_run.proofs.commands.sending.end.Goals as goal
 
 pub tell-requires-clause-call : goal.tell-requires-clause-call
 tell-requires-clause-call c =
-    may-end c.args.machine.now.parts c.args.machine.now.history (serial_facts c.args.crew.now) c.requires.user.book.within c.requires.user.book.lawful c.requires.in_step.held
+    may-end c.args.machine.now.parts c.args.machine.now.history (serial_facts c.args.crew.now) c.requires.user.sound.within c.requires.user.sound.lawful c.requires.in_step.held
     c.args.to (sym c.has_place.ensures ∙ c.if-not-has_place.false)
 
 pub returns-then-not-has_place : goal.returns-then-not-has_place
 returns-then-not-has_place c =
-    no-place-done serial c.args.machine.now (serial_facts c.args.crew.now) c.requires.user.book c.requires.in_step (Kill c.args.to) c.args.to refl
+    no-place-done serial c.args.machine.now (serial_facts c.args.crew.now) c.requires.user.sound c.requires.in_step (Kill c.args.to) c.args.to refl
     (sym c.has_place.ensures ∙ c.if-not-has_place.true)
 
 pub returns : goal.returns
 returns c =
-    if-ok c.tell.result (λ answer. HasTold serial c.args.machine.now c.tell.new.machine c.args.crew.now.grant.user (kill_call 0 c.args.to) answer (serial_facts c.tell.new.crew))
+    if-ok c.tell.result (λ answer. HasToldHost serial c.args.machine.now c.tell.new.machine c.args.crew.now.grant.user (kill_call 0 c.args.to) answer (serial_facts c.tell.new.crew))
     (λ answer. HasDone serial c.args.machine.now c.tell.new.machine c.args.crew.now.grant.user (Kill c.args.to) answer (own_crew (serial_facts c.tell.new.crew)))
     (λ answer told. told (Kill c.args.to) (record { home = 0; index = 0 }) refl) c.tell.ensures

@@ -6,5 +6,5 @@ use Rattle.ce_run.proofs.commands.telling.status.Goals as goal
 
 pub returns : goal.returns
 returns c parts history step =
-    dumped parts history (serial_facts c.args.crew.now) step serial c.args.at c.status.result c.index.result.now (sym c.has_place.ensures ∙ c.if-not-has_place.false)
+    dumped parts history (serial_facts c.args.crew.now) step serial c.args.place c.status.result c.index.result.now (sym c.has_place.ensures ∙ c.if-not-has_place.false)
     c.index.ensures c.status.ensures

@@ -1,10 +1,10 @@
-use Rattle.ce_script.specs.Lines.{size_of}
-use Rattle.ce_script.specs.ReadLines.{left_of}
+use Rattle.ce_script.specs.Lines.{rest_size}
+use Rattle.ce_script.specs.ReadLines.{rest_text}
 use Rattle.ce_script.proofs.BodyEnds.{IsUpTo}
 use Rattle.ce_script.proofs.reader.body.body_in.Given as goal
 
 abbrev pub invariant-loop-line : goal.invariant-loop-line
-invariant-loop-line l = IsUpTo l.fn.rest l.all l.left
+invariant-loop-line l = IsUpTo l.fn.rest l.all l.tail
 
 abbrev pub decreases-loop-line : goal.decreases-loop-line
-decreases-loop-line l = size_of (left_of l.left)
+decreases-loop-line l = rest_size (rest_text l.tail)

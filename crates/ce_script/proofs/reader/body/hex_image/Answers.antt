@@ -10,4 +10,4 @@ returns-in-Ok c = λ lines is. (
 
 pub returns-in-Err : goal.returns-in-Err
 returns-in-Err c = λ lines is.
-    rw c.at.ensures (hex_judged c.args.body lines is c.in_ok-bytes.bytes.items (Some c.in-Err.field-0) c.in_ok-bytes.ensures.0 c.in_ok-bytes.ensures.1 c.in-Err.ensures.fault)
+    rw c.fault_of_line.ensures (hex_judged c.args.body lines is c.in_ok-bytes.bytes.items (Some c.in-Err.field-0) c.in_ok-bytes.ensures.0 c.in_ok-bytes.ensures.1 c.in-Err.ensures.fault)

@@ -14,6 +14,6 @@ returns-in-Ok c = λ lines is.
 pub returns : goal.returns
 returns c = λ lines is.
     let exact = rw c.as_slice.ensures.value at c.in-Err.ensures.exact in
-    rw c.at-in_default.ensures
+    rw c.fault_of_line-in_default.ensures
     (rki_judged c.args.body lines is c.in_ok-bytes.bytes.items (Some c.in-Err.fault) c.in_ok-bytes.ensures.0 c.in_ok-bytes.ensures.1
     (sym (named c.in-Err.fault c.in_default.not-Memory) ∙ exact))

@@ -2,7 +2,7 @@ use Rattle.std.proofs.Common.{◌≡◌, ℕ, List, [], ◌∷◌, length, suc, 
 use Rattle.ce_model.specs.Blocks.{Block, with_ids}
 use Rattle.ce_model.specs.Node.{Node}
 use Rattle.xm_block.specs.Stores.{BlockStore, ids_of}
-use Rattle.rk_node.specs.Hearings.{AreApartFrom}
+use Rattle.rk_node.specs.Hearings.{AreNewToStore}
 use Rattle.rk_node.proofs.Names.{length-ids_of}
 use Rattle.rk_node.proofs.Moved.{apart-next, not_stored}
 use Rattle.rk_node.proofs.node.Node.empty_store.Goals as goal
@@ -15,7 +15,7 @@ give-requires-clause-room c =
 pub give-requires-clause-apart : goal.give-requires-clause-apart
 give-requires-clause-apart c =
     not_stored c.in-Some.block.id (ids_of c.take_least.new.self.blocks) c.loop-block.out
-    (subst (λ ids. AreApartFrom ids c.loop-block.out) (ap ids_of c.in-Some.ensures.taken) c.loop-block.invariant.apart)
+    (subst (λ ids. AreNewToStore ids c.loop-block.out) (ap ids_of c.in-Some.ensures.taken) c.loop-block.invariant.apart)
 
 pub loop-block-preserved : goal.loop-block-preserved
 loop-block-preserved c =
@@ -31,7 +31,7 @@ loop-block-preserved c =
       moved = ap (with_ids (ids_of rest)) c.give.ensures.ids
           ∙ sym (ap (λ blocks. with_ids (ids_of blocks) (ids_of out.blocks)) taken) ∙ was.moved;
       apart = apart-next (block.id ∷ []) (ids_of rest) out c.give.new.self c.give.ensures.ids
-          (subst (λ ids. AreApartFrom ids out) (ap ids_of taken) was.apart);
+          (subst (λ ids. AreNewToStore ids out) (ap ids_of taken) was.apart);
       spare = omega (arith, was.spare, spare, fewer, c.requires.room, length-ids_of c.args.self.now.store.blocks);
       batch = was.batch;
       room = was.room;

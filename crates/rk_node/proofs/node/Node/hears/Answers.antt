@@ -7,20 +7,20 @@ use Rattle.ce_model.specs.Node.{Node}
 use Rattle.rk_mail.specs.declared.talk.Hearing.{Hearing}
 use Rattle.rk_mail.specs.Talk.{hearing_model}
 use Rattle.rk_node.specs.Standing.{node_model}
-use Rattle.rk_node.specs.Hearings.{IsWorkOf}
+use Rattle.rk_node.specs.Hearings.{IsNodeWork}
 use Rattle.rk_node.proofs.node.Node.hears.Goals as goal
 
 -- what the node becomes by the answer that this one is
-by_answer : (images : List ImageParts) (node : Node) {after : Node} {heard heard' : Hearing} → heard ≡ heard' → after ≡ node_after_hearing images node (hearing_model heard')
-    → after ≡ node_after_hearing images node (hearing_model heard)
-by_answer images node is e = e ∙ sym (ap (λ heard. node_after_hearing images node (hearing_model heard)) is)
+by_answer : (images : List ImageParts) (node : Node) {after : Node} {hearing heard' : Hearing} → hearing ≡ heard' → after ≡ node_after_hearing images node (hearing_model heard')
+    → after ≡ node_after_hearing images node (hearing_model hearing)
+by_answer images node is e = e ∙ sym (ap (λ hearing. node_after_hearing images node (hearing_model hearing)) is)
 
 pub returns-in-Start-clause-node : goal.returns-in-Start-clause-node
 unfolding node_after_hearing
 returns-in-Start-clause-node c =
     by_answer c.args.images.now (node_model c.args.self.now) c.in-Start.is
     (c.start.ensures.node
-    ∙ ap (λ image. with_turn (node_model c.args.self.now) c.in-Start.pid (started_process image)) (get_or_read c.args.images.now c.in-Start.image _ (subst (IsWorkOf c.args.images.now (node_model c.args.self.now)) c.in-Start.is c.requires.work).2 c.index-images-image.is _))
+    ∙ ap (λ image. with_turn (node_model c.args.self.now) c.in-Start.pid (started_process image)) (get_or_read c.args.images.now c.in-Start.image _ (subst (IsNodeWork c.args.images.now (node_model c.args.self.now)) c.in-Start.is c.requires.work).2 c.index-images-image.is _))
 
 pub returns-in-Mail-clause-node : goal.returns-in-Mail-clause-node
 unfolding node_after_hearing

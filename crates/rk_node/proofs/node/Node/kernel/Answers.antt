@@ -39,13 +39,13 @@ pub returns-in-13-clause-made : goal.returns-in-13-clause-made
 unfolding kernel_calls
 returns-in-13-clause-made c = made-call c.exit.ensures c.argument-number.ensures c.in-13.is (λ node p. refl)
 
-pub counted_call-requires-clause-counted : goal.counted_call-requires-clause-counted
-counted_call-requires-clause-counted c = counted-number c.argument-number.result (search rules)
+pub make_counted_call-requires-clause-counted : goal.make_counted_call-requires-clause-counted
+make_counted_call-requires-clause-counted c = counted-number c.argument-number.result (search rules)
 
 pub returns-in-4-clause-made : goal.returns-in-4-clause-made
-returns-in-4-clause-made c = made-number c.counted_call.ensures.made c.argument-number.ensures
+returns-in-4-clause-made c = made-number c.make_counted_call.ensures.made c.argument-number.ensures
 
 pub returns-in_default-clause-made : goal.returns-in_default-clause-made
 returns-in_default-clause-made c =
-    made-none c.stop_outcome.ensures c.argument-number.ensures
+    made-none c.stop_turn.ensures c.argument-number.ensures
     (call_none c.argument-number.result (omega arith) (omega arith) (omega arith) (omega arith) (omega arith) (omega arith) (omega arith) (omega arith) (omega arith) (omega arith) (omega arith) (omega arith) (omega arith) (omega arith))

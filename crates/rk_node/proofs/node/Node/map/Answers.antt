@@ -1,9 +1,9 @@
 use Rattle.std.proofs.Common.{◌≡◌, ◌<◌, ◌+◌, List, length, map, slice_set, Some, ap, ◌∙◌, sym, arith, length-set}
 use Rattle.ce_model.specs.Space.{window_start}
 use Rattle.xm_owner.specs.Holdings.{Mapping, block_held_at}
-use Rattle.rk_process.specs.Seen.{Own, place_of}
-use Rattle.rk_node.specs.Moves.{with_mapped}
-use Rattle.rk_node.specs.Standing.{node_model, process_in}
+use Rattle.rk_process.specs.OwnStates.{OwnState, place_of, process_with_mappings}
+use Rattle.rk_node.specs.Moves.{with_mapped_block}
+use Rattle.rk_node.specs.Standing.{node_model}
 use Rattle.rk_node.specs.Tables.{used_count_of}
 use Rattle.rk_node.proofs.Windows.{windows-mapped, vacant-unused}
 use Rattle.rk_node.proofs.Maps.{all-put_in, rising-put_in, length-put_in}
@@ -41,10 +41,10 @@ returns-clause-node c =
     let own = c.index_mut-process.result.now in
     let changes = rw c.give_window-window.ensures.window at c.map.ensures.change in
     ap (λ ps. record (node_model node) { processes = ps })
-    (processes-change m m' node.processes.items c.args.pid.number own c.give_window-window.new.self (with_mapped c.args.block) (omega arith) c.index_mut-process.ensures.value
+    (processes-change m m' node.processes.items c.args.pid.number own c.give_window-window.new.self (with_mapped_block c.args.block) (omega arith) c.index_mut-process.ensures.value
     (same-changed c.args.pid.number own.used_count (Some c.args.block) m m' node.processes.items changes)
-    (ap (λ o. process_in m' c.args.pid.number o) c.give_window-window.ensures.after
-    ∙ ap (λ windows. record { status = own.status; regs = own.regs; pc = own.pc; space = record { private = own.private; windows = windows } })
+    (ap (λ o. process_with_mappings m' c.args.pid.number o) c.give_window-window.ensures.after
+    ∙ ap (λ windows. record { status = own.status; registers = own.registers; pc = own.pc; space = record { private = own.private; windows = windows } })
     (windows-mapped m m' c.args.pid.number own.used_count c.args.block changes)))
 
 pub invariant_of-self-clause-stocked : goal.invariant_of-self-clause-stocked
@@ -58,7 +58,7 @@ invariant_of-self-clause-stocked c =
     let o' = c.give_window-window.new.self in
     let used = used_by-read node.processes.items c.args.pid.number o (omega arith) c.index_mut-process.ensures.value in
     let vacant = vacant-unused node.processes.items m c.args.pid.number o.used_count node.stocked.windows (omega (arith, used)) in
-    let used' : o'.used_count ≡ o.used_count + 1 = ap (λ (o : Own). o.used_count) c.give_window-window.ensures.after in
+    let used' : o'.used_count ≡ o.used_count + 1 = ap (λ (o : OwnState). o.used_count) c.give_window-window.ensures.after in
     let long : length c.map.new.self.mappings ≡ length m + 1 = ap (λ (ms : List Mapping). length ms) after ∙ length-put_in x m ∙ omega arith in
     let here : x.window < used_count_of (slice_set node.processes.items c.args.pid.number o') c.args.pid.number =
     omega (arith, used', c.give_window-window.ensures.window, used_by-set node.processes.items c.args.pid.number o' (omega arith)) in

@@ -2,10 +2,10 @@ use Rattle.std.proofs.Common.{◌≡◌, ℕ, [], length, map, replicate, Some, 
 use Rattle.std.proofs.lemmas.List.{length-replicate}
 use Rattle.ce_model.specs.Limits.{process_count, process_count_lem, home_blocks}
 use Rattle.xm_owner.specs.Holdings.{MappingTable}
-use Rattle.rk_process.specs.Seen.{place_of, unborn_own}
+use Rattle.rk_process.specs.OwnStates.{place_of, unborn_state}
 use Rattle.rk_node.specs.Standing.{processes_of}
-use Rattle.rk_node.specs.Tables.{AreRising, AreWithin}
-use Rattle.rk_node.specs.Boxes.{fresh_at}
+use Rattle.rk_node.specs.Tables.{AreRisingPlaces, AreUsedWindows}
+use Rattle.rk_node.specs.Boxes.{fresh_node_at}
 use Rattle.rk_node.proofs.Names.{length-ids_of}
 use Rattle.xm_block.proofs.HomeBlocks.{length-blocks_of_home}
 use Rattle.rk_node.proofs.Fresh.{all-unborn}
@@ -25,9 +25,9 @@ invariant_of-result c =
       few_nodes = omega arith;
       poll_room = omega (arith, process_count_lem, c.in_ok-with_capacity.ensures.capacity);
       stocked = record {
-        every_id = ap {B = ℕ} length c.in_ok-unborn_processes.ensures ∙ length-replicate process_count unborn_own;
-        windows = subst (λ m. AreWithin owns (map place_of m)) (sym none) tt;
-        rising = subst (λ m. AreRising (map place_of m)) (sym none) tt;
+        every_id = ap {B = ℕ} length c.in_ok-unborn_processes.ensures ∙ length-replicate process_count unborn_state;
+        windows = subst (λ m. AreUsedWindows owns (map place_of m)) (sym none) tt;
+        rising = subst (λ m. AreRisingPlaces (map place_of m)) (sym none) tt;
         held_room = omega (arith, no_mapping, spare);
         store_room = omega (arith, many, room);
         within = omega (arith, many, no_mapping, room);
@@ -40,7 +40,7 @@ returns c =
     let processes : processes_of m c.in_ok-unborn_processes.field-0.items ≡ replicate process_count _ =
     ap (processes_of m) c.in_ok-unborn_processes.ensures ∙ all-unborn m 0 process_count in
     record {
-      fresh = λ i. record (fresh_at c.args.home 0 0 0) { processes = processes i; store = c.in_ok-of_home.ensures.blocks i; polling_ids = c.in_ok-with_capacity.ensures.items i };
+      fresh = λ i. record (fresh_node_at c.args.home 0 0 0) { processes = processes i; store = c.in_ok-of_home.ensures.blocks i; polling_ids = c.in_ok-with_capacity.ensures.items i };
       has_room = refl;
       batch = ap Some c.in_ok-new-2.ensures;
     }

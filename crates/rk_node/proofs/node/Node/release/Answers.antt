@@ -3,7 +3,7 @@ use Rattle.ce_model.specs.Space.{emptied_space}
 use Rattle.ce_model.specs.Kernel.{with_space}
 use Rattle.xm_block.specs.Stores.{BlockStore, ids_of}
 use Rattle.xm_owner.specs.Holdings.{MappingTable, process_blocks}
-use Rattle.rk_process.specs.Seen.{unborn_own}
+use Rattle.rk_process.specs.OwnStates.{unborn_state}
 use Rattle.rk_node.specs.Standing.{node_model}
 use Rattle.rk_node.proofs.Windows.{windows-emptied}
 use Rattle.rk_node.proofs.Maps.{all-filter, rising-filter, length-drained}
@@ -28,10 +28,10 @@ returns-clause-node c =
     let m = node.held_blocks.mappings in
     let m' = c.drain.new.self.mappings in
     let owns = node.processes.items in
-    let own = slice_index_or owns c.args.pid.number unborn_own in
+    let own = slice_index_or owns c.args.pid.number unborn_state in
     let same = same-but c.args.pid.number m m' owns (λ q w differ. c.drain.ensures.others q w differ) in
     let processes = processes-held m m' owns c.args.pid.number (λ p. with_space p (emptied_space p.space)) (omega (arith, node.stocked.every_id)) same
-    (ap (λ windows. record { status = own.status; regs = own.regs; pc = own.pc; space = record { private = own.private; windows = windows } })
+    (ap (λ windows. record { status = own.status; registers = own.registers; pc = own.pc; space = record { private = own.private; windows = windows } })
     (windows-emptied m m' c.args.pid.number own.used_count c.drain.ensures.gone)) in
     let store = ids_of-drained node c.args.pid.number node.store.blocks _ c.args.pid.within (ap (λ (store : BlockStore). store.blocks) c.drain.ensures.moved) in
     λ i. record (node_model node) { processes = processes i; store = store i }

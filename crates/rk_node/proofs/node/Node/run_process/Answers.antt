@@ -2,10 +2,10 @@ use Rattle.std.proofs.Common.{◌≡◌, ◌<◌, ℕ, List, length, map, slice_
 use Rattle.std.proofs.lemmas.List.{length-map}
 use Rattle.ce_model.specs.Process.{Process, turn_end}
 use Rattle.xm_owner.specs.Holdings.{Mapping}
-use Rattle.rk_process.specs.Seen.{Own, ProcessRest, place_of}
+use Rattle.rk_process.specs.OwnStates.{OwnState, ProcessRest, place_of}
 use Rattle.rk_process.specs.Runs.{turn_end_of}
-use Rattle.rk_node.specs.Standing.{node_model, turn_of, processes_of}
-use Rattle.rk_node.specs.Tables.{AreRising, AreWithin}
+use Rattle.rk_node.specs.Standing.{node_model, turn_model, processes_of}
+use Rattle.rk_node.specs.Tables.{AreRisingPlaces, AreUsedWindows}
 use Rattle.rk_node.proofs.Processes.{processes-set, process-read, process-put, same-others, within-change, turn-runs}
 use Rattle.rk_node.proofs.Turns.{left-kept}
 use Rattle.rk_node.proofs.node.Node.run_process.Goals as goal
@@ -14,10 +14,10 @@ pub run_to_call-requires : goal.run_to_call-requires
 run_to_call-requires c =
     let node = c.args.self.now in
     ap (λ (p : Process). p.status) (sym (process-read node.held_blocks.mappings node.processes.items c.args.turn.now.pid.number c.index_mut-process.result.now (omega (arith, c.args.self.now.stocked.every_id, c.args.turn.now.pid.within)) c.index_mut-process.ensures.value))
-    ∙ turn-runs (node_model node) (turn_of c.args.turn.now) c.requires.well c.args.turn.now.pid.within
+    ∙ turn-runs (node_model node) (turn_model c.args.turn.now) c.requires.well c.args.turn.now.pid.within
 
 module _ (c : goal.After-turn-1) where
-  abbrev owns : List Own
+  abbrev owns : List OwnState
   owns = c.args.self.now.processes.items
 
   abbrev m : List Mapping
@@ -34,7 +34,7 @@ returns-clause-reached c =
     let within : pid c < length (owns c) = omega (arith, c.args.self.now.stocked.every_id, c.args.turn.now.pid.within) in
     ap (turn_end c.args.turn.now.instructions_left) (process-read (m c) (owns c) (pid c) c.index_mut-process.result.now within c.index_mut-process.ensures.value)
     ∙ c.run_to_call.ensures.reached
-    ∙ ap (turn_end_of c.run_to_call.result c.run_to_call.new.left) (sym (process-put (m' c) (owns c) (pid c) c.run_to_call.new.self within))
+    ∙ ap (turn_end_of c.run_to_call.result c.run_to_call.new.instructions_left) (sym (process-put (m' c) (owns c) (pid c) c.run_to_call.new.self within))
 
 pub returns-clause-node : goal.returns-clause-node
 returns-clause-node c =
@@ -59,9 +59,9 @@ invariant_of-self-clause-stocked c =
     let long : length m' ≡ length m = sym (length-map m' place_of) ∙ ap {B = ℕ} length places ∙ length-map m place_of in
     record {
       every_id = length-set owns pid own' ∙ node.stocked.every_id;
-      windows = subst (AreWithin (slice_set owns pid own')) (sym places)
+      windows = subst (AreUsedWindows (slice_set owns pid own')) (sym places)
           (within-change owns pid c.index_mut-process.result.now own' (map place_of m) within c.index_mut-process.ensures.value (ap (λ (rest : ProcessRest). rest.used_count) rest) node.stocked.windows);
-      rising = subst AreRising (sym places) node.stocked.rising;
+      rising = subst AreRisingPlaces (sym places) node.stocked.rising;
       held_room = omega (arith, node.stocked.held_room, long, spare);
       store_room = node.stocked.store_room;
       within = omega (arith, node.stocked.within, long);
@@ -69,4 +69,4 @@ invariant_of-self-clause-stocked c =
 
 pub invariant_of-turn-clause-instructions : goal.invariant_of-turn-clause-instructions
 invariant_of-turn-clause-instructions c =
-    omega (arith, c.args.turn.now.instructions, left-kept c.args.turn.now.instructions_left c.run_to_call.new.left _ _ c.run_to_call.result c.run_to_call.ensures.reached)
+    omega (arith, c.args.turn.now.instructions, left-kept c.args.turn.now.instructions_left c.run_to_call.new.instructions_left _ _ c.run_to_call.result c.run_to_call.ensures.reached)

@@ -1,13 +1,13 @@
 use Rattle.std.proofs.Common.{◌≡◌}
 use Rattle.ce_model.specs.Saying.{turn_saying}
-use Rattle.rk_node.specs.Standing.{node_model, turn_of}
+use Rattle.rk_node.specs.Standing.{node_model, turn_model}
 use Rattle.rk_node.specs.Ready.{IsInTurn}
 use Rattle.rk_node.proofs.node.Node.run_turn.Given as goal
 
 abbrev pub invariant-loop-say : goal.invariant-loop-say
 invariant-loop-say l = record {
-  said : turn_saying l.turn.instructions_left (node_model l.self) (turn_of l.turn) ≡ turn_saying l.fn.begun.instructions_left (node_model l.fn.self) (turn_of l.fn.begun);
-  ready : IsInTurn l.self (turn_of l.turn);
+  said : turn_saying l.turn.instructions_left (node_model l.self) (turn_model l.turn) ≡ turn_saying l.fn.first_turn.instructions_left (node_model l.fn.self) (turn_model l.fn.first_turn);
+  ready : IsInTurn l.self (turn_model l.turn);
   room : l.self.room ≡ l.fn.self.room;
 }
 

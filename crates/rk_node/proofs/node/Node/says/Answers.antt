@@ -1,6 +1,6 @@
 use Rattle.std.proofs.Common.{ap, sym, ◌∙◌, subst}
 use Rattle.ce_model.specs.Saying.{Saying}
-use Rattle.rk_node.specs.Wording.{HasBatch, call_out}
+use Rattle.rk_node.specs.Wording.{HasBatch, awaited_call_of}
 use Rattle.rk_node.proofs.Turns.{ready-turn, says-turn, says-idle}
 use Rattle.rk_node.proofs.node.Node.says.Goals as goal
 
@@ -20,4 +20,4 @@ pub returns-in-None-clause-node : goal.returns-in-None-clause-node
 returns-in-None-clause-node c = ap (λ (s : Saying). s.node) (sym (says-idle c.args.self.now c.in-None.is))
 
 pub returns-in-None-clause-batch : goal.returns-in-None-clause-batch
-returns-in-None-clause-batch c = subst (λ call. HasBatch (call_out call) c.args.self.now.batch) (sym c.work_request.ensures) c.requires.batch
+returns-in-None-clause-batch c = subst (λ call. HasBatch (awaited_call_of call) c.args.self.now.batch) (sym c.work_request.ensures) c.requires.batch

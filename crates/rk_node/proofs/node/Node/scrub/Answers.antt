@@ -3,7 +3,7 @@ use Rattle.ce_model.specs.Limits.{process_count_lem}
 use Rattle.ce_model.specs.Blocks.{with_ids}
 use Rattle.xm_block.specs.Stores.{ids_of}
 use Rattle.rk_node.specs.Standing.{node_model}
-use Rattle.rk_node.specs.Hearings.{AreApartFrom, ids_in}
+use Rattle.rk_node.specs.Hearings.{AreNewToStore, process_block_ids}
 use Rattle.rk_node.proofs.Processes.{length-processes}
 use Rattle.rk_node.proofs.Moved.{put_all-append, apart-first, apart-next, ids_from, ids-past, ids-split, node-next, node-scrubbed}
 use Rattle.rk_node.proofs.node.Node.scrub.Goals as goal
@@ -35,13 +35,13 @@ pub scrub_process-requires-clause-apart : goal.scrub_process-requires-clause-apa
 scrub_process-requires-clause-apart c =
     let n = node_model c.args.self.now in
     let split = ids-split n (node_model c.loop-pid.self) c.loop-pid.pid c.loop-pid.invariant.node (omega (arith, length-processes c.args.self.now, process_count_lem)) in
-    apart-first _ (ids_from (c.loop-pid.pid + 1) n.processes) c.loop-pid.out (subst (λ ids. AreApartFrom ids c.loop-pid.out) split c.loop-pid.invariant.apart)
+    apart-first _ (ids_from (c.loop-pid.pid + 1) n.processes) c.loop-pid.out (subst (λ ids. AreNewToStore ids c.loop-pid.out) split c.loop-pid.invariant.apart)
 
 pub scrub_process-requires-clause-room : goal.scrub_process-requires-clause-room
 scrub_process-requires-clause-room c =
     let n = node_model c.args.self.now in
     let split = ids-split n (node_model c.loop-pid.self) c.loop-pid.pid c.loop-pid.invariant.node (omega (arith, length-processes c.args.self.now, process_count_lem)) in
-    omega (arith, c.requires.room, c.loop-pid.invariant.spare, ap {B = ℕ} length split, length-append (ids_in c.loop-pid.pid (node_model c.loop-pid.self)) (ids_from (c.loop-pid.pid + 1) n.processes))
+    omega (arith, c.requires.room, c.loop-pid.invariant.spare, ap {B = ℕ} length split, length-append (process_block_ids c.loop-pid.pid (node_model c.loop-pid.self)) (ids_from (c.loop-pid.pid + 1) n.processes))
 
 pub loop-pid-preserved : goal.loop-pid-preserved
 loop-pid-preserved c =
@@ -50,7 +50,7 @@ loop-pid-preserved c =
     let now = node_model c.loop-pid.self in
     let k = c.loop-pid.pid in
     let fewer : k < length n.processes = omega (arith, length-processes c.args.self.now, process_count_lem) in
-    let first = ids_in k now in
+    let first = process_block_ids k now in
     let rest = ids_from (k + 1) n.processes in
     let split = ids-split n now k was.node fewer in
     let out = c.loop-pid.out in
@@ -59,7 +59,7 @@ loop-pid-preserved c =
       node = node-next n now (node_model c.scrub_process.new.self) k was.node done.node fewer;
       moved = ap (with_ids rest) done.moved ∙ sym (put_all-append first rest (ids_of out.blocks))
           ∙ sym (ap (λ ids. with_ids ids (ids_of out.blocks)) split) ∙ was.moved;
-      apart = apart-next first rest out c.scrub_process.new.out done.moved (subst (λ ids. AreApartFrom ids out) split was.apart);
+      apart = apart-next first rest out c.scrub_process.new.out done.moved (subst (λ ids. AreNewToStore ids out) split was.apart);
       spare = omega (arith, was.spare, done.spare, ap {B = ℕ} length split, length-append first rest);
       batch = done.batch ∙ was.batch;
       room = done.room ∙ was.room;

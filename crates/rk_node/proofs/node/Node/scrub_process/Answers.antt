@@ -1,8 +1,9 @@
 use Rattle.std.proofs.Common.{ℕ, length, slice_set, ap, ◌∙◌, arith, length-set}
 use Rattle.xm_block.specs.Stores.{BlockStore}
 use Rattle.xm_owner.specs.Holdings.{MappingTable, process_blocks}
-use Rattle.rk_node.specs.Standing.{node_model, process_in}
-use Rattle.rk_node.specs.Hearings.{ids_in}
+use Rattle.rk_process.specs.OwnStates.{process_with_mappings}
+use Rattle.rk_node.specs.Standing.{node_model}
+use Rattle.rk_node.specs.Hearings.{process_block_ids}
 use Rattle.rk_node.proofs.Maps.{rising-filter, length-drained}
 use Rattle.rk_node.proofs.Names.{ids_of-process, ids_of-drained, length-ids_of}
 use Rattle.rk_node.proofs.Processes.{processes-set, same-but}
@@ -19,7 +20,7 @@ drain-requires-clause-room c =
 pub drain-requires-clause-apart : goal.drain-requires-clause-apart
 drain-requires-clause-apart c =
     let node = c.args.self.now in
-    apart-blocks (process_blocks c.args.pid.number node.held_blocks.mappings) (ids_in c.args.pid.number (node_model node)) c.args.out.now
+    apart-blocks (process_blocks c.args.pid.number node.held_blocks.mappings) (process_block_ids c.args.pid.number (node_model node)) c.args.out.now
     (ids_of-process node c.args.pid.number c.args.pid.within) c.requires.apart
 
 pub returns-clause-node : goal.returns-clause-node
@@ -30,7 +31,7 @@ returns-clause-node c =
     let owns = node.processes.items in
     ap (λ ps. record (node_model node) { processes = ps })
     (processes-set m m' owns c.args.pid.number c.reset.new.self (omega (arith, node.stocked.every_id)) (same-but c.args.pid.number m m' owns (λ q w differ. c.drain.ensures.others q w differ))
-    ∙ ap (λ own. slice_set (node_model node).processes c.args.pid.number (process_in m' c.args.pid.number own)) c.reset.ensures
+    ∙ ap (λ own. slice_set (node_model node).processes c.args.pid.number (process_with_mappings m' c.args.pid.number own)) c.reset.ensures
     ∙ ap (slice_set (node_model node).processes c.args.pid.number) (unborn-in m' c.args.pid.number))
 
 pub returns-clause-moved : goal.returns-clause-moved

@@ -30,5 +30,5 @@ invariant_of-self c =
     let none : count id (blocks_of n) ≡ 0 = not-counted id (blocks_of n) (subst (λ (b : Box). ¬ (Contains (blocks_of b.node) id)) (sym c.self.view_is) c.requires.apart) in
     record {
       well = subst (λ (n : Node). IsWell n.turn n) (sym c.give.ensures.node) (put-well n.turn n id whole.well none);
-      batch = subst (HasBatch c.self.inside.out) (sym c.give.ensures.batch) whole.batch;
+      batch = subst (HasBatch c.self.inside.awaited_call) (sym c.give.ensures.batch) whole.batch;
     }

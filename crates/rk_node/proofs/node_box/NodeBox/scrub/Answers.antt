@@ -13,5 +13,5 @@ invariant_of-self c =
     let done = c.scrub.ensures in
     record {
       well = subst (λ (n : Node). IsWell n.turn n) (sym done.node) (idle-well (scrubbed_node n) (idle-scrubbed n));
-      batch = subst (HasBatch c.self.inside.out) (sym done.batch) c.self.invariant.batch;
+      batch = subst (HasBatch c.self.inside.awaited_call) (sym done.batch) c.self.invariant.batch;
     }

@@ -2,8 +2,8 @@ use Rattle.std.proofs.Common.{◌≡◌, ◌≤◌, ◌+◌, ◌-◌, length, Li
 use Rattle.std.specs.List.{Contains}
 use Rattle.std.proofs.lemmas.List.Edits.{length-insert}
 use Rattle.ce_model.specs.Blocks.{Block, with_id}
-use Rattle.xm_block.specs.Rising.{IsRising}
-use Rattle.xm_block.specs.Stores.{is_before, ids_of, with_block}
+use Rattle.ce_model.specs.Rising.{IsRising}
+use Rattle.xm_block.specs.Stores.{is_block_before, ids_of, with_block}
 use Rattle.xm_block.proofs.Rises.{put_in-at}
 use Rattle.xm_block.proofs.Names.{rising-insert, ids_of-with_block}
 use Rattle.xm_block.proofs.store.Store.give.Goals as goal
@@ -20,7 +20,7 @@ module _ (c : goal.In-Ok) where
   seen = sym (ap (λ store. store.blocks) c.self.view_is)
 
   items : after ≡ with_block c.args.block before
-  items = c.in-Ok.ensures.items ∙ put_in-at is_before c.args.block before _ c.place_of-place.ensures.within c.place_of-place.ensures.passed c.place_of-place.ensures.ahead
+  items = c.in-Ok.ensures.items ∙ put_in-at is_block_before c.args.block before _ c.place_of-place.ensures.within c.place_of-place.ensures.passed c.place_of-place.ensures.ahead
 
   long : length after ≡ length before + 1
   long = ap length c.in-Ok.ensures.items ∙ length-insert _ _ _ c.place_of-place.ensures.within
@@ -33,7 +33,7 @@ invariant_of-self c =
     let n = long c in
     let place = room c in
     record {
-      rising = subst (IsRising is_before) (sym c.in-Ok.ensures.items) (rising-insert c.args.block (before c) _ c.place_of-place.ensures.within c.self.invariant.rising (subst (λ (blocks : List Block). Contains (ids_of blocks) c.args.block.id → ⊥) (seen c) c.requires.apart) c.place_of-place.ensures.passed c.place_of-place.ensures.ahead);
+      rising = subst (IsRising is_block_before) (sym c.in-Ok.ensures.items) (rising-insert c.args.block (before c) _ c.place_of-place.ensures.within c.self.invariant.rising (subst (λ (blocks : List Block). Contains (ids_of blocks) c.args.block.id → ⊥) (seen c) c.requires.apart) c.place_of-place.ensures.passed c.place_of-place.ensures.ahead);
       within = omega arith;
       reserved = omega (arith, c.insert.ensures.capacity, c.self.invariant.reserved);
       counted = c.self.invariant.counted;

@@ -1,6 +1,6 @@
 use Rattle.std.proofs.Common.{List, length, ap, subst, arith}
-use Rattle.xm_block.specs.Rising.{IsRising}
-use Rattle.xm_owner.specs.Holdings.{Mapping, is_before}
+use Rattle.ce_model.specs.Rising.{IsRising}
+use Rattle.xm_owner.specs.Holdings.{Mapping, is_mapping_before}
 use Rattle.xm_owner.proofs.Places.{length-mappings_of, rising-mappings_of}
 use Rattle.xm_owner.proofs.held_blocks.HeldBlocks.count.Goals as goal
 
@@ -14,5 +14,5 @@ returns-clause-count c =
 pub returns-clause-rising : goal.returns-clause-rising
 returns-clause-rising c =
     let kept = c.self.invariant in
-    subst (λ (ms : List Mapping). IsRising is_before ms) (ap (λ held. held.mappings) c.self.view_is)
+    subst (λ (ms : List Mapping). IsRising is_mapping_before ms) (ap (λ held. held.mappings) c.self.view_is)
     (rising-mappings_of c.self.inside.keys.list.items c.self.inside.blocks.items kept.paired c.self.inside.keys.rising)

@@ -1,5 +1,5 @@
 use Rattle.std.proofs.Common.{sym, subst}
-use Rattle.xm_block.specs.Rising.{IsRising}
+use Rattle.ce_model.specs.Rising.{IsRising}
 use Rattle.xm_owner.specs.Tables.{is_key_before}
 use Rattle.xm_owner.proofs.KeyOrder.{rising-insert}
 use Rattle.xm_owner.proofs.keys.Keys.insert.Goals as goal

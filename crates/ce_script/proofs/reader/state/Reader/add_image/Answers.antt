@@ -14,7 +14,7 @@ overflow_cast-number c = omega (arith, c.len-number.ensures, c.args.self.few.ima
 pub invariant_of-self : goal.invariant_of-self
 invariant_of-self c =
     let so_far = c.args.self.so_far in
-    let named = c.args.named in
+    let named = c.args.named_image in
     let images = c.in_ok-push.ensures.ok in
     let names = ap (map (λ (named : NamedImage). named.name)) images ∙ map-append (λ (named : NamedImage). named.name) so_far.script.images (named ∷ []) in
     let word : c.as_bytes.result.now ≡ named.name = cc in

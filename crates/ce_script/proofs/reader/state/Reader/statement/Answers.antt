@@ -8,7 +8,7 @@ use Rattle.ce_script.proofs.reader.state.Reader.statement.Goals as goal
 use Rattle.ce_script.proofs.reader.state.Reader.statement.Goals.{In_default, in_default-via-in-Image+in_default, in_default-via-in_default}
 
 pub returns-in-Err-clause-said : goal.returns-in-Err-clause-said
-returns-in-Err-clause-said c = rw c.at.ensures (begun_wrong c.args.self.so_far c.args.line.now c.args.rest c.in-Err.kind c.in-Err.ensures)
+returns-in-Err-clause-said c = rw c.fault_of_line.ensures (begun_wrong c.args.self.so_far c.args.line.now c.args.rest c.in-Err.kind c.in-Err.ensures)
 
 -- the statement is no image
 is_plain : (c : In_default) → is_image c.in-Ok.verb ≡ false
@@ -36,7 +36,7 @@ returns-in-Image-Some-clause-said c =
 pub returns-in-Err-other_statement-clause-said : goal.returns-in-Err-other_statement-clause-said
 returns-in-Err-other_statement-clause-said c =
     let plain = is_plain (goal.at.returns-in-Err-other_statement-clause-said c).In_default in
-    rw c.at-in-Err-other_statement.ensures
+    rw c.fault_of_line-in-Err-other_statement.ensures
     (plain_wrong c.args.self.so_far c.args.line.now c.args.rest c.in-Ok.verb c.in-Ok.ensures.0 c.in-Ok.ensures.1 c.in-Ok.ensures.2 plain c.in-Err-other_statement.kind c.in-Err-other_statement.ensures)
 
 pub returns-in-Ok-other_statement-clause-said : goal.returns-in-Ok-other_statement-clause-said

@@ -1,5 +1,0 @@
-use Rattle.ce_record.proofs.Held.{held_after_is_held}
-use Rattle.ce_record.proofs.laws.held_after_law.Goals as goal
-
-pub returns : goal.returns
-returns c = record { law = held_after_is_held }
