@@ -81,58 +81,59 @@ fn send_inward(
     })
 }
 
+/// A spawn, as the cube knows it.
+fn spawn_inward(sub: Subcube, pid: u32, image: u32, to: Place, fresh: bool) -> What
+    ensures { result ≡ What.Spawn pid image (place_inward sub to) fresh }
+{
+    What::Spawn {
+        pid,
+        image,
+        to: place_inward(sub, to),
+        fresh,
+    }
+}
+
 /// A call and its answer, as the cube knows them.
 fn what_inward(alloc: Global, sub: Subcube, what: &What) -> Result<What, NoMemory>
     ensures { IfOk result (λ answer. answer
         ≡ renamed_what (place_inward sub) (block_inward sub) what.now) }
 {
     match what {
-        What::Getcube { dim, sub } => Ok(What::Getcube {
-            dim: *dim,
-            sub: *sub,
-        }),
+        &What::Getcube { dim, sub } => Ok(What::Getcube { dim, sub }),
         What::Peek => Ok(What::Peek),
         What::Drain => Ok(What::Drain),
         What::Freecube => Ok(What::Freecube),
-        What::Arm { count } => Ok(What::Arm { count: *count }),
-        What::Look { found } => Ok(What::Look { found: *found }),
-        What::HostTake { number } => Ok(What::HostTake { number: *number }),
+        &What::Arm { count } => Ok(What::Arm { count }),
+        &What::Look { found } => Ok(What::Look { found }),
+        &What::HostTake { number } => Ok(What::HostTake { number }),
         What::Send {
             pid,
             first,
             to,
             bytes,
         } => send_inward(alloc, sub, *pid, *first, to, bytes),
-        What::Spawn {
+        &What::Spawn {
             pid,
             image,
             to,
             fresh,
-        } => Ok(What::Spawn {
-            pid: *pid,
-            image: *image,
-            to: place_inward(sub, *to),
-            fresh: *fresh,
+        } => Ok(spawn_inward(sub, pid, image, to, fresh)),
+        &What::Kill { pid, to, found } => Ok(What::Kill {
+            pid,
+            to: place_inward(sub, to),
+            found,
         }),
-        What::Kill { pid, to, found } => Ok(What::Kill {
-            pid: *pid,
-            to: place_inward(sub, *to),
-            found: *found,
-        }),
-        What::Note { pid, word } => Ok(What::Note {
-            pid: *pid,
-            word: *word,
-        }),
-        What::Take {
+        &What::Note { pid, word } => Ok(What::Note { pid, word }),
+        &What::Take {
             asking,
             dead,
             poller,
             given,
         } => Ok(What::Take {
-            asking: *asking,
-            dead: *dead,
-            poller: *poller,
-            given: *given,
+            asking,
+            dead,
+            poller,
+            given,
         }),
     }
 }

@@ -1,5 +1,5 @@
 -- What each statement means.
-use Rattle.std.specs.Prelude.{ℕ, ◌+◌, ◌*◌, ◌/◌, ◌-◌, ◌^◌, ◌%◌, Bool, not, ◌||◌, nat_lt, nat_le, if◌then◌else◌, List, [], ◌∷◌, map, Option, Some, None, Result, Ok, ℤ, pos, unsigned_abs, ok_or}
+use Rattle.std.specs.Prelude.{ℕ, ◌+◌, ◌*◌, ◌/◌, ◌-◌, ◌^◌, ◌%◌, Bool, not, ◌||◌, nat_lt, nat_le, if◌then◌else◌, List, [], ◌∷◌, map, Option, Some, None, Result, Ok, Err, ℤ, pos, unsigned_abs, ok_or}
 use Rattle.rv_model.specs.declared.limits.TheConstants.{GREATEST_UPPER, LEAST_IMMEDIATE, IMAGE_ROOM, UPPER_UNIT}
 use Rattle.rv_model.specs.declared.inst.Inst.{Inst}
 use Rattle.rv_model.specs.declared.inst.Inst.TheVariants as insts
@@ -145,6 +145,11 @@ zero_count names operands = do
   Ok (unsigned_abs n)
 
 -- ---- the table
+
+-- the judgment of one statement, as that of the list of it
+abbrev pub list_of_one : Result Statement AsmKind → Result (List Statement) AsmKind
+list_of_one (Ok statement) = Ok (statement ∷ [])
+list_of_one (Err kind) = Err kind
 
 -- What a mnemonic and its operands lay, one after the other.
 unfoldable pub statements_of : Mnemonic → Names → List ℕ → Result (List Statement) AsmKind

@@ -1,15 +1,17 @@
 //! What each statement means.
 
 ghost use Rattle.std.specs.Prelude.{◌≡◌, ◌∷◌, [], map, IfOk, Ok};
-ghost use Rattle.rv_inst.specs.Valid.{IsTwelveBits, IsUpper, IsValid};
+ghost use Rattle.rv_inst.specs.Valid.{IsRegister, IsTwelveBits, IsUpper, IsValid};
 ghost use Rattle.rv_asm.specs.Sound.{IsSoundMnemonic, IsSoundStatement, AreSound};
 ghost use Rattle.rv_asm.specs.Faults.{IsSeenAs, judgment_of_list, with_judgment};
 ghost use Rattle.ce_text.specs.Names.{meanings_of};
-ghost use Rattle.rv_asm.specs.Statements.{low_part, high_part, two_instructions, is_short, load_word, word_value, byte_value, statements_of};
+ghost use Rattle.rv_asm.specs.Statements.{low_part, high_part, two_instructions, is_short, list_of_one, load_word, word_value, byte_value, statements_of};
 ghost use Rattle.rv_asm.specs.Line.{pieces};
+ghost use Rattle.rv_asm.specs.Names.{no_names};
 ghost use Rattle.rv_asm.specs.Views.{datum_value, list_judgment};
 ghost use Rattle.rv_model.specs.declared.inst.Inst.TheVariants as insts;
 ghost use Rattle.rv_model.specs.declared.inst.ImmOp.TheVariants.{Addi};
+ghost use Rattle.rv_asm.specs.declared.mnemonic.Mnemonic.TheVariants as mnemonics;
 ghost use Rattle.rv_asm.specs.declared.statement.Statement.TheVariants as statements;
 
 use crate::fault::{AsmKind, Halt, Judgment};
@@ -28,7 +30,8 @@ use crate::operand::{
 };
 use crate::symbols::{Symbol, Symbols};
 use rv_model::{
-    BranchOp, GREATEST_IMMEDIATE, IMAGE_ROOM, ImmOp, Inst, LEAST_IMMEDIATE, Register, UPPER_UNIT,
+    BranchOp, GREATEST_IMMEDIATE, IMAGE_ROOM, ImmOp, Inst, LEAST_IMMEDIATE, RegOp, Register,
+    UPPER_UNIT,
 };
 use std::alloc::{AllocError, Global};
 
@@ -243,9 +246,118 @@ fn data<'a>(
     }
 }
 
+/// `addi rd, rs1, n` and the other operations on a register and a number.
+#[tactic(auto, unfolding(crate::specs::Statements::statements_of))]
+fn immediate_operation<'a>(op: ImmOp, symbols: &Symbols, operands: &[u8]) -> Judgment<Statement<'a>>
+    ensures value { list_of_one result
+        ≡ statements_of (mnemonics.OpImm op) (meanings_of symbols.now) operands.now }
+    ensures sound { IfOk result IsSoundStatement }
+{
+    let (rd, rs1, imm) = registers_immediate(symbols, op, operands)?;
+    Ok(Statement::Inst(Inst::OpImm { op, rd, rs1, imm }))
+}
+
+/// `add rd, rs1, rs2` and the other operations on two registers. Here, and where else no operand can
+/// be a name of a number, it is judged as with no names.
+#[tactic(auto, unfolding(crate::specs::Statements::statements_of))]
+fn register_operation<'a>(op: RegOp, operands: &[u8]) -> Judgment<Statement<'a>>
+    ensures value { list_of_one result ≡ statements_of (mnemonics.Op op) no_names operands.now }
+    ensures sound { IfOk result IsSoundStatement }
+{
+    let (rd, rs1, rs2) = three_registers(operands)?;
+    Ok(Statement::Inst(Inst::Op { op, rd, rs1, rs2 }))
+}
+
+/// `mv rd, rs`
+#[tactic(auto, unfolding(crate::specs::Statements::statements_of, crate::specs::Statements::two_registers))]
+fn copy_register<'a>(operands: &[u8]) -> Judgment<Statement<'a>>
+    ensures value { list_of_one result ≡ statements_of mnemonics.Mv no_names operands.now }
+    ensures sound { IfOk result IsSoundStatement }
+{
+    let (rd, rs) = two_pieces(operands)?;
+    let (rd, rs) = pair(register(rd), register(rs))?;
+    Ok(Statement::Inst(addi(rd, rs, 0)))
+}
+
+/// `jal rd, label`
+#[tactic(auto, unfolding(crate::specs::Statements::statements_of))]
+fn jump_and_link<'a>(operands: &'a [u8]) -> Judgment<Statement<'a>>
+    ensures value { list_of_one result ≡ statements_of mnemonics.Jal no_names operands.now }
+    ensures sound { IfOk result IsSoundStatement }
+{
+    let (rd, label) = register_label(operands)?;
+    Ok(Statement::Jal { rd, label })
+}
+
+/// `j label` and `call label`, which leave the return address in this register.
+#[tactic(auto, unfolding(crate::specs::Statements::statements_of, crate::specs::Statements::one_label))]
+fn jump<'a>(rd: u8, operands: &'a [u8]) -> Judgment<Statement<'a>>
+    requires { IsRegister rd }
+    ensures value { list_of_one result ≡ statements_of (mnemonics.Jump rd) no_names operands.now }
+    ensures sound { IfOk result IsSoundStatement }
+{
+    let label = one_piece(operands)?;
+    name_piece(label)?;
+    let label = Label::from_bytes(label);
+    Ok(Statement::Jal { rd, label })
+}
+
+/// `beq rs1, rs2, label` and the other branches.
+#[tactic(auto, unfolding(crate::specs::Statements::statements_of))]
+fn branch<'a>(op: BranchOp, operands: &'a [u8]) -> Judgment<Statement<'a>>
+    ensures value { list_of_one result ≡ statements_of (mnemonics.Branch op) no_names operands.now }
+    ensures sound { IfOk result IsSoundStatement }
+{
+    let (rs1, rs2, label) = registers_label(operands)?;
+    Ok(Statement::Branch {
+        op,
+        rs1,
+        rs2,
+        label,
+    })
+}
+
+/// `la rd, label`
+#[tactic(auto, unfolding(crate::specs::Statements::statements_of))]
+fn load_address<'a>(operands: &'a [u8]) -> Judgment<Statement<'a>>
+    ensures value { list_of_one result ≡ statements_of mnemonics.La no_names operands.now }
+    ensures sound { IfOk result IsSoundStatement }
+{
+    let (rd, label) = register_label(operands)?;
+    Ok(Statement::La { rd, label })
+}
+
+/// `.zero n`
+#[tactic(auto, unfolding(crate::specs::Statements::statements_of, crate::specs::Statements::zero_count))]
+fn zeros<'a>(symbols: &Symbols, operands: &[u8]) -> Judgment<Statement<'a>>
+    ensures value { list_of_one result
+        ≡ statements_of mnemonics.Zero (meanings_of symbols.now) operands.now }
+    ensures sound { IfOk result IsSoundStatement }
+{
+    let count = one_piece(operands)?;
+    let count = number_in_range(0, i64::from(IMAGE_ROOM), number(symbols, count))?;
+    Ok(Statement::Zero(count as u32))
+}
+
+/// `li rd, n`
+#[tactic(auto, unfolding(crate::specs::Statements::statements_of, crate::specs::Statements::register_word))]
+fn load_number<'a>(
+    alloc: Global,
+    symbols: &Symbols,
+    operands: &[u8],
+) -> Result<Vec<Statement<'a>>, Halt>
+    ensures value { IsSeenAs (λ list. list.items) result
+        (statements_of mnemonics.Li (meanings_of symbols.now) operands.now) }
+    ensures sound { IfOk result (λ list. AreSound list.items) }
+{
+    let (rd, word) = two_pieces(operands)?;
+    let (rd, word) = pair(register(rd), number(symbols, word))?;
+    load_word(alloc, Register { number: rd }, word_of(word))
+}
+
 /// What a mnemonic and its operands lay, one after the other. The faults are judged in the order
 /// Operands, BadRegister, BadNumber, UnknownName.
-#[tactic(auto, unfolding(crate::specs::Statements::statements_of, crate::specs::Statements::two_registers, crate::specs::Statements::register_word, crate::specs::Statements::one_label, crate::specs::Statements::zero_count))]
+#[tactic(auto, unfolding(crate::specs::Statements::statements_of))]
 pub fn statements_of<'a>(
     alloc: Global,
     mnemonic: Mnemonic,
@@ -282,55 +394,15 @@ pub fn statements_of<'a>(
             let (rs2, imm, rs1) = register_memory(symbols, operands)?;
             one(alloc, Statement::Inst(Inst::Store { op, rs1, rs2, imm }))
         }
-        Mnemonic::OpImm(op) => {
-            let (rd, rs1, imm) = registers_immediate(symbols, op, operands)?;
-            one(alloc, Statement::Inst(Inst::OpImm { op, rd, rs1, imm }))
-        }
-        Mnemonic::Op(op) => {
-            let (rd, rs1, rs2) = three_registers(operands)?;
-            one(alloc, Statement::Inst(Inst::Op { op, rd, rs1, rs2 }))
-        }
-        Mnemonic::Mv => {
-            let (rd, rs) = two_pieces(operands)?;
-            let (rd, rs) = pair(register(rd), register(rs))?;
-            one(alloc, Statement::Inst(addi(rd, rs, 0)))
-        }
-        Mnemonic::Jal => {
-            let (rd, label) = register_label(operands)?;
-            one(alloc, Statement::Jal { rd, label })
-        }
-        Mnemonic::Jump { rd } => {
-            let label = one_piece(operands)?;
-            name_piece(label)?;
-            let label = Label::from_bytes(label);
-            one(alloc, Statement::Jal { rd, label })
-        }
-        Mnemonic::Branch(op) => {
-            let (rs1, rs2, label) = registers_label(operands)?;
-            one(
-                alloc,
-                Statement::Branch {
-                    op,
-                    rs1,
-                    rs2,
-                    label,
-                },
-            )
-        }
-        Mnemonic::La => {
-            let (rd, label) = register_label(operands)?;
-            one(alloc, Statement::La { rd, label })
-        }
-        Mnemonic::Zero => {
-            let count = one_piece(operands)?;
-            let count = number_in_range(0, i64::from(IMAGE_ROOM), number(symbols, count))?;
-            one(alloc, Statement::Zero(count as u32))
-        }
-        Mnemonic::Li => {
-            let (rd, word) = two_pieces(operands)?;
-            let (rd, word) = pair(register(rd), number(symbols, word))?;
-            load_word(alloc, Register { number: rd }, word_of(word))
-        }
+        Mnemonic::OpImm(op) => one(alloc, immediate_operation(op, symbols, operands)?),
+        Mnemonic::Op(op) => one(alloc, register_operation(op, operands)?),
+        Mnemonic::Mv => one(alloc, copy_register(operands)?),
+        Mnemonic::Jal => one(alloc, jump_and_link(operands)?),
+        Mnemonic::Jump { rd } => one(alloc, jump(rd, operands)?),
+        Mnemonic::Branch(op) => one(alloc, branch(op, operands)?),
+        Mnemonic::La => one(alloc, load_address(operands)?),
+        Mnemonic::Zero => one(alloc, zeros(symbols, operands)?),
+        Mnemonic::Li => load_number(alloc, symbols, operands),
         Mnemonic::Word => data(alloc, Datum::Word, symbols, operands),
         Mnemonic::Byte => data(alloc, Datum::Byte, symbols, operands),
     }
