@@ -20,9 +20,9 @@ use Rattle.ce_machine.specs.Meanings.{MachineFacts}
 use Rattle.ce_script.specs.Rounds.{has_work, IsTurn, RoundKind, serial}
 use Rattle.ce_cube.specs.Boxes.{IsHeldAs, IsInStep}
 use Rattle.ce_cube.specs.Rounds.{IsPartOfRound}
-use Rattle.ce_cube.specs.Crews.{HasStopped, IsLawfulMachine, IsReadyBox, AreBoxesInStep, IsHostInStep, IsCrewInStep, HasCrewGoneOn, AreCallsOf, box_at, CrewFacts, HasMadeSerialRound}
+use Rattle.ce_cube.specs.Crews.{HasStopped, IsLawfulMachine, IsReadyBox, AreBoxesInStep, IsHostInStep, IsCrewInStep, HasCrewGoneOn, AreCallsOf, box_at, CrewFacts, HasMadeSerialRound, cube_dispatches_left}
 use Rattle.ce_daemon.specs.Peeks.{cube_grant}
-use Rattle.ce_cube.specs.Exchanges.{HasNode, IsTurnUnderWay, HasTakenTurn, IsRoundUnderWay, machine_node, cube_dispatches_left}
+use Rattle.ce_cube.specs.Exchanges.{HasNode, IsTurnUnderWay, HasTakenTurn, IsRoundUnderWay, machine_node}
 use Rattle.ce_cube.specs.Beside.{IsMix}
 use Rattle.ce_cube.proofs.Held.{placed-of}
 use Rattle.ce_cube.proofs.Fronts.{mix-serial, mix-calls, mix-both}

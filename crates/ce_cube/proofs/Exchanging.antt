@@ -4,8 +4,6 @@ use Rattle.std.specs.List.{Contains}
 use Rattle.std.specs.Prelude.{is_some}
 use Rattle.std.proofs.lemmas.Bool.{eq-eqb, ne_eqb, both_ways}
 use Rattle.rv_model.specs.Image.{ImageParts}
-use Rattle.ce_model.specs.declared.process.Status.{Status}
-use Rattle.ce_model.specs.declared.process.Status.TheVariants.{Unborn, Running, Asking, Polling, Stopped}
 use Rattle.ce_model.specs.declared.entry.Entry.{Entry}
 use Rattle.ce_model.specs.declared.entry.What.{What}
 use Rattle.ce_model.specs.declared.entry.What.TheVariants as whats
@@ -17,11 +15,11 @@ use Rattle.ce_model.specs.Hearing.{node_after_hearing}
 use Rattle.ce_model.specs.Subcubes.{node_of, ones_of, extract, is_base}
 use Rattle.ce_model.proofs.AloneByEntries.{call_of-answer}
 use Rattle.ce_solo.proofs.Counting.{count-is}
+use Rattle.ce_solo.proofs.Hears.{unborn-is, born-is}
 use Rattle.ce_solo.proofs.Projection.Numbers.{IsPlaced, out_no_host}
 use Rattle.ce_solo.proofs.Renaming.Grants.{few_nodes}
 use Rattle.ce_model.specs.Node.{Node, Call, process_at, blocks_of, process_set}
 use Rattle.ce_model.specs.Saying.{says}
-use Rattle.ce_model.specs.Sound.{is_unborn}
 use Rattle.ce_model.specs.Renaming.{CubeGrant}
 use Rattle.ce_model.specs.Machine.{MachineParts, MachineState, IsFitting, cube_held_by, cube_request, after, what_of_request, HeldCube, nodes_of, cube_standing, with_places_outward}
 use Rattle.ce_daemon.specs.declared.grant.Grant.{Grant}
@@ -114,16 +112,6 @@ said-heard home clean parts state user actor nodes standing grant (say.Note pid 
     heard-by (cube_held_by state user) (λ cube. actor_items state cube actor) (answer nodes standing actor (with_places_outward grant (call_of_say (say.Note pid word)))) reply is
 
 -- ---- what a box can hear
-
-unborn-is : (status : Status) → IsTrue (is_unborn status) → status ≡ Unborn
-unborn-is Unborn is = refl
-unborn-is Running is = absurd (cc)
-unborn-is Asking is = absurd (cc)
-unborn-is Polling is = absurd (cc)
-unborn-is (Stopped cause) is = absurd (cc)
-
-born-is : (status : Status) → is_unborn status ≡ false → ¬ (status ≡ Unborn)
-born-is status born e = absurd (both_ways (is_unborn status) born (ap is_unborn e))
 
 -- a box can hear what its node can
 can-work : (images : List ImageParts) (box : Box) (node : Node) (hearing : Hearing) → box.node ≡ node → greatest_blocks ≤ box.room

@@ -16,7 +16,7 @@ use Rattle.ce_model.specs.Machine.{MachineParts, IsLawfulEntry, IsFitting, Reque
 use Rattle.ce_model.specs.Views.{cube_entries}
 use Rattle.ce_lock.specs.declared.who.Who.{Who}
 use Rattle.ce_lock.specs.Entries.{is_of, entries_of, IsForeignEntry}
-use Rattle.ce_lock.proofs.Histories.{between, own_append, own_none, every_map, not_of, of_actor}
+use Rattle.ce_lock.proofs.Histories.{between, own_append, own_none, not_of, of_actor}
 use Rattle.ce_machine.specs.Meanings.{whose, is_alone_entry}
 use Rattle.ce_machine.specs.Keeping.{alone-answered}
 use Rattle.ce_script.specs.Moments.{own_entries}
@@ -130,7 +130,7 @@ mix-both kind user front rest made made' first next = record {
 pub none-foreign : (who : Who) (missed : List Entry) → AllByRecursion (IsForeignEntry whose is_alone_entry who) missed → entries_of whose who missed ≡ []
 none-foreign who missed foreign =
     own_none whose who missed
-    (every_map (IsForeignEntry whose is_alone_entry who) (λ entry. is_of whose who entry ≡ false) (not_of whose is_alone_entry who) missed foreign)
+    (all-weaker (IsForeignEntry whose is_alone_entry who) (λ entry. is_of whose who entry ≡ false) missed (not_of whose is_alone_entry who) foreign)
 
 pub foreign-beside : (who : Who) (missed : List Entry) → AllByRecursion (IsForeignEntry whose is_alone_entry who) missed → AreNotMadeAlone who.family missed
 foreign-beside who [] foreign = tt

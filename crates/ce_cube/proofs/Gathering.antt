@@ -1,16 +1,17 @@
 -- Loops over a list of boxes that hand their blocks on, one box after the other.
-use Rattle.std.proofs.Common.{◌≡◌, ℕ, zero, suc, ◌+◌, ◌<◌, ◌≤◌, false, List, [], ◌∷◌, ◌++◌, map, flat_map, take, drop, length, get_or, slice_set, refl, ap, ap₂, sym, ◌∙◌, subst, arith}
-use Rattle.std.specs.List.{Contains, range_with_len}
+use Rattle.std.proofs.Common.{◌≡◌, ℕ, zero, suc, ◌+◌, ◌<◌, ◌≤◌, List, [], ◌∷◌, ◌++◌, map, flat_map, take, drop, length, get_or, slice_set, refl, ap, ap₂, sym, ◌∙◌, subst, arith}
+use Rattle.std.specs.List.{Contains}
 use Rattle.std.proofs.lemmas.List.{append-nil, append_assoc, map-append, length-append, length-map, length-take-le, get_or_append_left, get_or_at, set_at, take-append-drop, take_at, drop_at, drop_more, take_more, drop-drop}
-use Rattle.std.proofs.lemmas.Bool.Decides.{nat_tests}
 use Rattle.std.proofs.lemmas.List.Concat.{flat_map-append, flat_map_single}
 use Rattle.std.proofs.lemmas.List.Sums.{fold-append}
-use Rattle.std.proofs.lemmas.List.FromFn.{get_or-map-range_with_len, length-map-range_with_len, map-range_with_len_more}
+use Rattle.std.proofs.lemmas.List.FromFn.{get_or-map-range_with_len, length-map-range_with_len}
 use Rattle.ce_model.specs.declared.topology.BlockId.{BlockId}
 use Rattle.ce_model.specs.Limits.{home_blocks}
-use Rattle.ce_model.specs.Blocks.{Block, is_lower, with_id, with_ids, blocks_of_home}
+use Rattle.ce_model.specs.Blocks.{Block, with_id, with_ids, blocks_of_home}
+use Rattle.ce_model.specs.Literals.{block}
 use Rattle.ce_solo.proofs.Counting.{hit, hit-self, count, count-cons, count-append, count-put_all}
 use Rattle.xm_block.specs.Stores.{BlockStore, ids_of}
+use Rattle.xm_block.proofs.HomeBlocks.{first_names}
 use Rattle.rk_node.specs.Hearings.{AreNewToStore}
 use Rattle.ce_cube.specs.Homecoming.{HasPrefix}
 
@@ -138,48 +139,14 @@ given-apart blocks yielded block first store next so_far moved all there =
 
 -- ---- the blocks of one home, one after the other
 
-pub name_at : ℕ → ℕ → BlockId
-name_at home index = record { home = home; index = index }
-
-pub home-of_name : (home index : ℕ) → (name_at home index).home ≡ home
-unfolding name_at
-home-of_name home index = refl
-
--- the first blocks of a home
-abbrev pub first_names : ℕ → ℕ → List BlockId
-first_names home n = map (name_at home) (range_with_len 0 n)
-
 pub all-names : (home : ℕ) → first_names home home_blocks ≡ blocks_of_home home
-unfolding name_at
 all-names home = refl
 
 pub length-names : (home n : ℕ) → length (first_names home n) ≡ n
-length-names home n = length-map-range_with_len (name_at home) 0 n
-
-later : (home i j : ℕ) → i < j → is_lower (name_at home j) (name_at home i) ≡ false
-unfolding name_at
-later home i j h = grind (arith, nat_tests)
-
-put-later : (home from n j : ℕ) → from + n ≤ j
-    → with_id (name_at home j) (map (name_at home) (range_with_len from n)) ≡ map (name_at home) (range_with_len from n) ++ name_at home j ∷ []
-put-later home from zero j h = refl
-put-later home from (suc n) j h =
-    rw (later home from j (omega arith)) (ap (λ ids. name_at home from ∷ ids) (put-later home (from + 1) n j (omega arith)))
-
--- the next block's name goes last
-pub put-next : (home n : ℕ) → with_id (name_at home n) (first_names home n) ≡ first_names home (n + 1)
-put-next home n = put-later home 0 n n (omega arith) ∙ sym (map-range_with_len_more (name_at home) 0 n n (omega arith))
-
--- it isn't among the earlier ones
-pub next-new : (home n : ℕ) → Contains (first_names home n) (name_at home n) → ⊥
-unfolding name_at
-next-new home n (k, low, same) =
-    let at = get_or-map-range_with_len (name_at home) 0 n k k (name_at home n) (omega (arith, low, length-names home n)) (omega arith) in
-    let e : name_at home k ≡ name_at home n = sym at ∙ same in
-    absurd (omega (arith, low, length-names home n, ap (λ (id : BlockId). id.index) e))
+length-names home n = length-map-range_with_len (block home) 0 n
 
 -- a store that begins with the blocks of a home has the next one first
-pub next-first : (home i : ℕ) (ids : List BlockId) → HasPrefix (blocks_of_home home) ids → i < home_blocks → drop i ids ≡ name_at home i ∷ drop (i + 1) ids
+pub next-first : (home i : ℕ) (ids : List BlockId) → HasPrefix (blocks_of_home home) ids → i < home_blocks → drop i ids ≡ block home i ∷ drop (i + 1) ids
 next-first home i ids begins less =
     let names : List BlockId = first_names home home_blocks in
     let front : take (length names) ids ≡ names =
@@ -188,7 +155,7 @@ next-first home i ids begins less =
     let whole : ids ≡ names ++ r = sym (take-append-drop (length names) ids) ∙ ap (λ zs. zs ++ r) front in
     let within : i < length names = omega (arith, less, length-names home home_blocks) in
     let below : i < length ids = omega (arith, within, ap (λ zs. length zs) whole, length-append names r) in
-    drop_more ids i (name_at home i) below
+    drop_more ids i (block home i) below
     ∙ ap (λ id. id ∷ drop (i + 1) ids)
-    (ap (λ zs. get_or zs i (name_at home i)) whole ∙ get_or_append_left names r (name_at home i) i within
-    ∙ get_or-map-range_with_len (name_at home) 0 home_blocks i i (name_at home i) less (omega arith))
+    (ap (λ zs. get_or zs i (block home i)) whole ∙ get_or_append_left names r (block home i) i within
+    ∙ get_or-map-range_with_len (block home) 0 home_blocks i i (block home i) less (omega arith))

@@ -12,12 +12,13 @@ use Rattle.ce_model.specs.Trace.{NodeRecord}
 use Rattle.ce_model.specs.Answers.{offer_of}
 use Rattle.ce_model.specs.Cube.{Cube, CubeState, IsCube, hearing_of_parcel, hearing_of_result}
 use Rattle.ce_model.specs.Sound.{IsSound}
+use Rattle.ce_model.proofs.Subcubes.{find-passes}
 use Rattle.ce_solo.proofs.Counting.{hit-self, count, count-nil, count-cons, count-is, sum_run-part}
 use Rattle.ce_solo.proofs.Records.{record_with, among-all, HasTakenItem, without_named, takes-item, start-taken, kill-taken}
 use Rattle.ce_solo.proofs.Totals.{count_at_node, count_at_node-is, total, total-is, total-le}
 use Rattle.ce_solo.proofs.Room.{held_blocks, few-blocks}
 use Rattle.ce_solo.proofs.Words.{HasMadeCall}
-use Rattle.ce_solo.proofs.HandedOver.{member-of, find-passes}
+use Rattle.ce_solo.proofs.HandedOver.{member-of}
 use Rattle.ce_solo.proofs.NodeTakes.{poller-polls, poller-within, now_well, birth_of, numbered_parcel}
 use Rattle.ce_cube.specs.Hearable.{IsStartable, IsDeliverable, IsEndable, IsPoller, IsHearable}
 

@@ -21,23 +21,10 @@ use Rattle.rk_mail.specs.Talk.{hearing_model, kill_hearing, IsHearingOfTake, IsH
 use Rattle.ce_solo.specs.Laws.{IsHearingOfCube}
 use Rattle.ce_solo.proofs.Items.{parcel_ids}
 use Rattle.ce_solo.proofs.Made.{find-all}
+use Rattle.ce_solo.proofs.Projection.Entries.{named-renamed}
 use Rattle.ce_model.specs.Owners.{IsBlockOf}
 
 module _ (rename : BlockId → BlockId) where
-  named-renamed : (given : TakeResult) (item : Item) → is_named_by given (renamed_item rename item) ≡ is_named_by given item
-  named-renamed (take_result.Start pid image) (start other number) = refl
-  named-renamed (take_result.Start pid image) (mail parcel) = refl
-  named-renamed (take_result.Start pid image) (kill other) = refl
-  named-renamed (take_result.Mail pid number) (start other image) = refl
-  named-renamed (take_result.Mail pid number) (mail parcel) = refl
-  named-renamed (take_result.Mail pid number) (kill other) = refl
-  named-renamed (take_result.Kill pid) (start other image) = refl
-  named-renamed (take_result.Kill pid) (mail parcel) = refl
-  named-renamed (take_result.Kill pid) (kill other) = refl
-  named-renamed (take_result.Poll pid) item = refl
-  named-renamed take_result.Idle item = refl
-  named-renamed take_result.Spent item = refl
-
   found_of : (b : Bool) (item : Item) (rest rest' : Option Item) → rest' ≡ option_map (renamed_item rename) rest
       → (if b then Some (renamed_item rename item) else rest') ≡ option_map (renamed_item rename) (if b then Some item else rest)
   found_of true item rest rest' same = refl
@@ -46,7 +33,7 @@ module _ (rename : BlockId → BlockId) where
   find-named : (given : TakeResult) (items : List Item) → find (is_named_by given) (map (renamed_item rename) items) ≡ option_map (renamed_item rename) (find (is_named_by given) items)
   find-named given [] = refl
   find-named given (item ∷ items) =
-      rw (named-renamed given item)
+      rw (named-renamed rename given item)
       (found_of (is_named_by given item) item (find (is_named_by given) items) (find (is_named_by given) (map (renamed_item rename) items)) (find-named given items))
 
   parcel_in-renamed : (found : Option Item) → option_and_then parcel_in (option_map (renamed_item rename) found) ≡ option_map (renamed_parcel rename) (option_and_then parcel_in found)

@@ -1,5 +1,5 @@
 -- A cube that is given back: its blocks fit the host's store, and each of its homes gets its own.
-use Rattle.std.proofs.Common.{◌≡◌, ℕ, zero, suc, ◌+◌, ◌*◌, ◌^◌, ◌<◌, ◌≤◌, true, List, [], ◌∷◌, ◌++◌, map, flat_map, take, drop, length, replicate, get_or, refl, ap, ap₂, sym, ◌∙◌, subst, arith, pow_mono}
+use Rattle.std.proofs.Common.{◌≡◌, ℕ, zero, suc, ◌+◌, ◌*◌, ◌^◌, ◌<◌, ◌≤◌, true, List, [], ◌∷◌, ◌++◌, map, flat_map, take, drop, length, get_or, refl, ap, ap₂, sym, ◌∙◌, subst, arith, pow_mono}
 use Rattle.std.specs.List.{All, AllByRecursion, range_with_len}
 use Rattle.std.proofs.lemmas.List.{get_or_default, get_or-map, length-append, length-map, take_at, drop_at}
 use Rattle.std.proofs.lemmas.List.Folds.{flat_map-map}
@@ -7,25 +7,24 @@ use Rattle.std.proofs.lemmas.List.FromFn.{fill_by_all}
 use Rattle.ce_model.specs.declared.topology.BlockId.{BlockId}
 use Rattle.ce_model.specs.Limits.{greatest_dim, home_blocks, home_blocks_lem, host_home, process_count, greatest_blocks, greatest_blocks_lem}
 use Rattle.ce_model.specs.Blocks.{Block, is_lower, with_ids, blocks_of_home}
-use Rattle.ce_model.specs.Process.{unborn_process}
-use Rattle.ce_model.specs.Space.{mapped_ids}
 use Rattle.ce_model.specs.Node.{blocks_of}
-use Rattle.ce_model.specs.Sound.{AreInOrder}
+use Rattle.ce_model.specs.Sound.{AreRisingIds}
 use Rattle.ce_model.specs.Cube.{node_numbers}
 use Rattle.ce_model.specs.Subcubes.{IsSubcube, node_of}
 use Rattle.ce_model.specs.Renaming.{CubeGrant}
 use Rattle.ce_model.proofs.Subcubes.{ones_of-bound}
 use Rattle.ce_solo.proofs.Counting.{count, count-append, count-is, count-put_all}
-use Rattle.ce_solo.proofs.Lists.{one_if, one_if-le}
+use Rattle.ce_solo.proofs.Lists.{truth_bit, truth_bit-le}
+use Rattle.ce_solo.proofs.Fresh.{ids-unborn}
 use Rattle.ce_solo.proofs.Renaming.Grants.{few_nodes}
 use Rattle.ce_solo.proofs.Projection.Numbers.{IsPlaced}
 use Rattle.ce_model.specs.Rising as rising
 use Rattle.xm_block.specs.Stores.{BlockStore, ids_of, is_block_before}
 use Rattle.ce_daemon.specs.Boxes.{AreBoxes}
 use Rattle.ce_host.specs.declared.host.Host.{Host}
-use Rattle.rk_node.specs.Boxes.{Box, IsCleanBox}
+use Rattle.rk_node.specs.Boxes.{Box, IsCleanBox, IsIdleBox}
 use Rattle.rk_node.specs.Hearings.{AreNewToStore}
-use Rattle.ce_cube.specs.Crews.{box_at, HasAllBlocks, IsHostAtHome, IsIdleBox}
+use Rattle.ce_cube.specs.Crews.{box_at, HasAllBlocks, IsHostAtHome}
 use Rattle.ce_cube.specs.Rehoming.{is_block_of, AreAllBlocks}
 use Rattle.ce_cube.specs.Homecoming.{IsEmptiedBox, names_in_boxes, emptied_box, refilled_box, names_at_home, HasPrefix}
 use Rattle.ce_cube.proofs.Homes.{names_of_cube, length-cube, length-whole, whole-store}
@@ -56,14 +55,10 @@ rising-head block (other ∷ blocks) pairs =
     skip (suc i) zero d low high = absurd (omega (arith, low))
     skip (suc i) (suc j) d low high = pairs (suc (suc i)) (suc (suc j)) d (omega (arith, low)) (omega (arith, high))
 
-rising-ids : (blocks : List Block) → rising.IsRising is_block_before blocks → AreInOrder (ids_of blocks)
+rising-ids : (blocks : List Block) → rising.IsRising is_block_before blocks → AreRisingIds (ids_of blocks)
 rising-ids [] pairs = tt
 rising-ids (block ∷ blocks) pairs =
     (rising-head block blocks pairs, rising-ids blocks (λ i j d low high. pairs (suc i) (suc j) d (omega (arith, low)) (omega (arith, high))))
-
-no_windows : (n : ℕ) → flat_map (λ p. mapped_ids p.space) (replicate n unborn_process) ≡ []
-no_windows zero = refl
-no_windows (suc n) = no_windows n
 
 clean : (box : Box) → IsIdleBox box → greatest_blocks ≤ box.room → IsCleanBox (refilled_box (emptied_box box))
 clean box idle room = record { node = refl; awaited_call = idle; room = room }
@@ -100,7 +95,7 @@ module _ (grant : CubeGrant) (boxes : List Box) (host : Host) (drained : List Bl
   all : AreAllBlocks grant ids
   all = subst (λ some. AreAllBlocks grant (some ++ (ids_of drained ++ ids_of host.store.blocks))) by_index holds.blocks
 
-  counted : (id : BlockId) → count id names + (count id (ids_of drained) + count id (ids_of host.store.blocks)) ≡ one_if (is_block_of grant id)
+  counted : (id : BlockId) → count id names + (count id (ids_of drained) + count id (ids_of host.store.blocks)) ≡ truth_bit (is_block_of grant id)
   counted id =
       ap (λ m. count id names + m) (sym (count-append id (ids_of drained) (ids_of host.store.blocks)))
       ∙ sym (count-append id names (ids_of drained ++ ids_of host.store.blocks)) ∙ sym (count-is id ids) ∙ all.once id
@@ -133,7 +128,7 @@ module _ (grant : CubeGrant) (boxes : List Box) (host : Host) (drained : List Bl
 
   pub boxes-apart : AreNewToStore names host.store
   boxes-apart = record {
-    apart = λ id. omega (arith, count-append id names (ids_of host.store.blocks), counted id, one_if-le (is_block_of grant id));
+    apart = λ id. omega (arith, count-append id names (ids_of host.store.blocks), counted id, truth_bit-le (is_block_of grant id));
   }
 
   pub drained-apart : (store : BlockStore) → ids_of store.blocks ≡ with_ids names (ids_of host.store.blocks) → AreNewToStore (ids_of drained) store
@@ -144,7 +139,7 @@ module _ (grant : CubeGrant) (boxes : List Box) (host : Host) (drained : List Bl
       ap (count id) moved,
       count-put_all id names (ids_of host.store.blocks),
       counted id,
-      one_if-le (is_block_of grant id),
+      truth_bit-le (is_block_of grant id),
     );
   }
 
@@ -163,7 +158,7 @@ module _ (grant : CubeGrant) (boxes : List Box) (host : Host) (drained : List Bl
   boxes-emptied some are r d below =
       let within : r < length boxes = omega (arith, below, ap (λ xs. length xs) are, length-map boxes emptied_box) in
       let is : get_or some r d ≡ emptied_box (get_or boxes r d) = ap (λ xs. get_or xs r d) are ∙ get_or-map emptied_box boxes r d d within in
-      subst IsEmptiedBox (sym is) (record { none = no_windows process_count; room = omega (arith, room-at r d within, greatest_blocks_lem, home_blocks_lem) })
+      subst IsEmptiedBox (sym is) (record { none = ids-unborn process_count; room = omega (arith, room-at r d within, greatest_blocks_lem, home_blocks_lem) })
 
   -- ---- the store with all blocks
 
@@ -218,7 +213,7 @@ module _ (grant : CubeGrant) (boxes : List Box) (host : Host) (drained : List Bl
   pub host-home : (some : List Box) (first second third : BlockStore) → some ≡ map emptied_box boxes
       → first.spare + length names ≡ host.store.spare → second.spare + length drained ≡ first.spare → third.spare ≡ second.spare + length (names_at_home some)
       → ids_of second.blocks ≡ names_of_cube grant → ids_of third.blocks ≡ drop (length (names_at_home some)) (ids_of second.blocks)
-      → IsHostAtHome grant.user (record { store = third; spare = host.spare })
+      → IsHostAtHome grant.user (record { store = third; spare_batch = host.spare_batch })
   host-home some first second third are of_boxes of_drained of_home is rest =
       let left : ids_of third.blocks ≡ own = host-left some (ids_of second.blocks) (ids_of third.blocks) are is rest in
       record {

@@ -7,7 +7,7 @@ use Rattle.std.proofs.lemmas.List.Folds.{list_any-append}
 use Rattle.ce_model.specs.declared.entry.Entry.{Entry}
 use Rattle.ce_script.specs.Rounds.{is_take, is_dispatch, has_work, IsTurn, joined_lists}
 use Rattle.ce_solo.proofs.Lists.{all-append}
-use Rattle.ce_cube.specs.Rounds.{AreMade}
+use Rattle.ce_cube.specs.Rounds.{RoundsAreMade}
 
 turn-more : (r : ℕ) (turn : List Entry) (entry : Entry) → IsTurn r turn → entry.actor ≡ r → IsFalse (is_take entry) → IsTurn r (turn ++ entry ∷ [])
 turn-more r [] entry is actor other = absurd is
@@ -46,7 +46,7 @@ one_only : (b : Bool) → (b || false) ≡ b
 one_only true = refl
 one_only false = refl
 
-pub are-made : AreMade
+pub are-made : RoundsAreMade
 are-made = record {
   turn_begins = λ r entry actor take. (take, tt, (actor, tt));
   turn_goes_on = turn-more;

@@ -18,14 +18,14 @@ use Rattle.ce_solo.proofs.Counting.{count, count-nil, sum_run-part}
 use Rattle.ce_solo.proofs.Items.{parcel_ids}
 use Rattle.ce_solo.proofs.Totals.{count_at_node, count_at_node-is, total, total-is}
 use Rattle.ce_solo.proofs.Room.{held_blocks}
-use Rattle.ce_solo.proofs.Words.{HasMadeCall, IsCallOf}
+use Rattle.ce_solo.proofs.Words.{HasMadeCall, IsCallOfNode}
 use Rattle.ce_solo.proofs.Made.{made-leaves}
 use Rattle.ce_solo.proofs.Renaming.Grants.{renaming}
 use Rattle.ce_cube.specs.Boxes.{IsStandIn}
 use Rattle.ce_cube.proofs.Held.{IsSeen, placed-grant}
 
 -- a node that asked for work asks so again
-pub asks_again : (node : Node) (call : Call) → IsCallOf node call → IsTrue (asks_for_work call) → says node ≡ record { node = node; call = call }
+pub asks_again : (node : Node) (call : Call) → IsCallOfNode node call → IsTrue (asks_for_work call) → says node ≡ record { node = node; call = call }
 unfolding says
 asks_again node (take_call asking dead poller) of asks = ap (saying_in node) of.1 ∙ ap (λ (call : Call). record { node = node; call = call }) (sym of.0)
 asks_again node (send_call pid to bytes) of asks = absurd (cc)

@@ -4,7 +4,7 @@ use Rattle.std.proofs.Common.{◌≡◌, ℕ, zero, suc, ◌+◌, ◌<◌, Bool,
 use Rattle.std.specs.List.{AllByRecursion, AllZip, list_any, range_with_len}
 use Rattle.std.proofs.lemmas.Bool.{eq-eqb, ne_eqb, lt-ltb}
 use Rattle.ce_solo.proofs.Counting.{sum_run, sum_run-same, sum_run-add, sum_run-zero, sum_run-at}
-use Rattle.ce_solo.proofs.Lists.{one_if, count_by-cons, count_by-append}
+use Rattle.ce_solo.proofs.Lists.{truth_bit, count_by-cons, count_by-append}
 
 module _ {X : Type 0} where
   -- where one passes, some do
@@ -32,21 +32,21 @@ module _ {X : Type 0} (number : X → ℕ) where
 
   module _ (test : X → Bool) where
     count-one : (r : ℕ) (x : X) (xs : List X)
-        → count_by test (members r (x ∷ xs)) ≡ (if number x == r then one_if (test x) else 0) + count_by test (members r xs)
+        → count_by test (members r (x ∷ xs)) ≡ (if number x == r then truth_bit (test x) else 0) + count_by test (members r xs)
     count-one r x xs = by_number (number x == r)
       where
-        by_number : (own : Bool) → count_by test (if own then x ∷ members r xs else members r xs) ≡ (if own then one_if (test x) else 0) + count_by test (members r xs)
+        by_number : (own : Bool) → count_by test (if own then x ∷ members r xs else members r xs) ≡ (if own then truth_bit (test x) else 0) + count_by test (members r xs)
         by_number true = count_by-cons test x (members r xs)
         by_number false = omega arith
 
     count-numbers : (n : ℕ) (xs : List X) → AllByRecursion (λ x. number x < n) xs → count_by test xs ≡ sum_run (λ r. count_by test (members r xs)) 0 n
     count-numbers n [] below = sym (sum_run-zero (λ r. count_by test (members r [])) 0 n (λ r low high. refl))
     count-numbers n (x ∷ xs) below =
-        let one = λ (r : ℕ). if number x == r then one_if (test x) else 0 in
+        let one = λ (r : ℕ). if number x == r then truth_bit (test x) else 0 in
         let rest = λ (r : ℕ). count_by test (members r xs) in
-        let at : one (number x) ≡ one_if (test x) = ap (λ own. if own then one_if (test x) else 0) (eq-eqb (number x) (number x) refl) in
+        let at : one (number x) ≡ truth_bit (test x) = ap (λ own. if own then truth_bit (test x) else 0) (eq-eqb (number x) (number x) refl) in
         let others : (r : ℕ) → (r ≡ number x → ⊥) → one r ≡ 0 =
-        λ r differ. ap (λ own. if own then one_if (test x) else 0) (ne_eqb (number x) r (λ e. differ (sym e))) in
+        λ r differ. ap (λ own. if own then truth_bit (test x) else 0) (ne_eqb (number x) r (λ e. differ (sym e))) in
         omega (
           arith,
           count_by-cons test x xs,

@@ -1,121 +1,61 @@
 -- A store with each block of a home once, and no other, is the one that the home begins with.
-use Rattle.std.proofs.Common.{◌≡◌, ℕ, zero, suc, ◌+◌, ◌<◌, ◌≤◌, Bool, true, false, ◌&&◌, ◌==◌, nat_lt, if◌then◌else◌, List, [], ◌∷◌, map, filter, refl, ap, ap₂, sym, ◌∙◌, inl, inr, arith}
-use Rattle.std.specs.List.{AllByRecursion, range_with_len}
-use Rattle.std.proofs.lemmas.Bool.{cases_Bool, cases_lt, both_ways, eq-eqb, eqb-true, ne_eqb, lt-ltb, le-ltb, and_from, or_right}
+use Rattle.std.proofs.Common.{◌≡◌, ℕ, ◌+◌, ◌≤◌, Bool, true, false, ◌&&◌, ◌==◌, nat_lt, if◌then◌else◌, List, [], ◌∷◌, map, filter, refl, ap, ap₂, sym, ◌∙◌, inl, inr, arith}
+use Rattle.std.specs.List.{range_with_len}
+use Rattle.std.proofs.lemmas.Bool.{cases_Bool, cases_lt, eq-eqb, eqb-true, ne_eqb, lt-ltb, le-ltb}
 use Rattle.std.proofs.lemmas.List.Concat.{flat_map_single}
 use Rattle.ce_model.specs.declared.topology.BlockId.{BlockId}
 use Rattle.ce_model.specs.Limits.{home_blocks}
-use Rattle.ce_model.specs.Blocks.{is_lower, with_ids, blocks_of_home}
-use Rattle.ce_model.specs.Sound.{AreInOrder}
+use Rattle.ce_model.specs.Blocks.{with_ids, blocks_of_home}
+use Rattle.ce_model.specs.Literals.{block}
 use Rattle.ce_model.specs.Renaming.{CubeGrant}
-use Rattle.ce_solo.proofs.Counting.{hit, hit-self, same_from_hit, count, count-nil, count-cons, count-one, count-is, count-run, count-put_all, rising-put_all, all-from_names, precedes-trans, precedes-other, sum_run, sum_run-zero, sum_run-at}
-use Rattle.ce_solo.proofs.Lists.{one_if}
+use Rattle.ce_solo.proofs.Counting.{hit, same_from_hit, count, count-nil, count-cons, count-one, count-is, count-run, count-put_all, rising-put_all, all-from_names, sum_run, sum_run-zero, sum_run-at}
+use Rattle.ce_solo.proofs.Lists.{truth_bit}
+use Rattle.ce_solo.proofs.Fresh.{rising-home}
+use Rattle.rk_node.proofs.Cleaned.{same-rising}
 use Rattle.ce_cube.specs.Rehoming.{is_home, is_block_of, AreAllBlocks, AreSorted, BlocksSort, StoresAreHome}
-
--- ---- two stores
-
-precedes-self : (id : BlockId) → is_lower id id ≡ false
-precedes-self id =
-    let home : nat_lt id.home id.home ≡ false = le-ltb _ _ (omega arith) in
-    let index : nat_lt id.index id.index ≡ false = le-ltb _ _ (omega arith) in
-    let same : (id.home == id.home) ≡ true = eq-eqb id.home id.home refl in
-    rw (home, same, index) refl
-
-none_later : (id : BlockId) (ids : List BlockId) → AllByRecursion (λ other. is_lower id other ≡ true) ids → count id ids ≡ 0
-none_later id [] all = count-nil id
-none_later id (other ∷ ids) all =
-    elim (cases_lt (hit id other) 1) [
-      | inl none ↦ omega (arith, count-cons id other ids, none, none_later id ids all.1)
-      | inr same ↦ absurd (both_ways _ (precedes-self id) (ap (is_lower id) (same_from_hit id other same) ∙ all.0))
-    ]
-
-all_later : (a b : BlockId) (ids : List BlockId) → is_lower a b ≡ true → AllByRecursion (λ id. is_lower b id ≡ true) ids → AllByRecursion (λ id. is_lower a id ≡ true) ids
-all_later a b [] before all = tt
-all_later a b (id ∷ ids) before all = (precedes-trans a b id before all.0, all_later a b ids before all.1)
-
-none_before : (a b : BlockId) (ids : List BlockId) → is_lower a b ≡ true → AreInOrder (b ∷ ids) → count a (b ∷ ids) ≡ 0
-none_before a b ids before rising = none_later a (b ∷ ids) (before, all_later a b ids before rising.0)
-
--- two stores with each name as often are the same
-pub same-store : (xs ys : List BlockId) → AreInOrder xs → AreInOrder ys → ((id : BlockId) → count id xs ≡ count id ys) → xs ≡ ys
-same-store [] [] rising rising' same = refl
-same-store [] (y ∷ ys) rising rising' same = absurd (omega (arith, same y, count-nil y, count-cons y y ys, hit-self y))
-same-store (x ∷ xs) [] rising rising' same = absurd (omega (arith, same x, count-nil x, count-cons x x xs, hit-self x))
-same-store (x ∷ xs) (y ∷ ys) rising rising' same =
-    elim (cases_lt (hit x y) 1) [
-      | inl differ ↦
-          elim (cases_Bool (is_lower x y)) [
-            | inl before ↦ absurd (omega (arith, same x, count-cons x x xs, hit-self x, none_before x y ys before rising'))
-            | inr behind ↦
-                absurd (omega (arith, same y, count-cons y y ys, hit-self y, none_before y x xs (precedes-other x y behind (omega (arith, differ))) rising))
-          ]
-      | inr here ↦
-          let first = same_from_hit x y here in
-          ap (λ id. id ∷ xs) first
-          ∙ ap (λ ids. y ∷ ids) (same-store xs ys rising.1 rising'.1
-          (λ id. omega (arith, same id, count-cons id x xs, count-cons id y ys, ap (hit id) first)))
-    ]
 
 -- ---- the blocks of a home
 
-name_at : ℕ → ℕ → BlockId
-name_at home index = record { home = home; index = index }
-
-from_index : (home index from n : ℕ) → index < from → AllByRecursion (λ other. is_lower (name_at home index) other ≡ true) (map (name_at home) (range_with_len from n))
-unfolding name_at
-from_index home index from zero less = tt
-from_index home index from (suc n) less =
-    (or_right _ _ (and_from _ _ (eq-eqb home home refl) (lt-ltb index from less)), from_index home index (from + 1) n (omega (arith, less)))
-
-rising-run : (home from n : ℕ) → AreInOrder (map (name_at home) (range_with_len from n))
-rising-run home from zero = tt
-rising-run home from (suc n) = (from_index home from (from + 1) n (omega arith), rising-run home (from + 1) n)
-
-hit-name : (id : BlockId) (home index : ℕ) → hit id (name_at home index) ≡ (if id.home == home && id.index == index then 1 else 0)
-unfolding hit name_at
+hit-name : (id : BlockId) (home index : ℕ) → hit id (block home index) ≡ (if id.home == home && id.index == index then 1 else 0)
+unfolding hit
 hit-name id home index = refl
 
-count-run_of : (id : BlockId) (home n : ℕ) → count id (map (name_at home) (range_with_len 0 n)) ≡ sum_run (λ index. count id (name_at home index ∷ [])) 0 n
+count-run_of : (id : BlockId) (home n : ℕ) → count id (map (block home) (range_with_len 0 n)) ≡ sum_run (λ index. count id (block home index ∷ [])) 0 n
 count-run_of id home n =
-    ap (count id) (sym (flat_map_single (name_at home) (range_with_len 0 n))) ∙ count-run id (λ index. name_at home index ∷ []) 0 n
+    ap (count id) (sym (flat_map_single (block home) (range_with_len 0 n))) ∙ count-run id (λ index. block home index ∷ []) 0 n
 
-none_if : (a b : Bool) → b ≡ false → one_if (a && b) ≡ 0
-none_if true b e = ap one_if e
+none_if : (a b : Bool) → b ≡ false → truth_bit (a && b) ≡ 0
+none_if true b e = ap truth_bit e
 none_if false b e = refl
 
-other_index : (id : BlockId) (home index : ℕ) → (index ≡ id.index → ⊥) → count id (name_at home index ∷ []) ≡ 0
+other_index : (id : BlockId) (home index : ℕ) → (index ≡ id.index → ⊥) → count id (block home index ∷ []) ≡ 0
 other_index id home index differ =
     let other : (id.index == index) ≡ false = ne_eqb _ _ (λ e. differ (sym e)) in
-    omega (arith, count-one id (name_at home index), hit-name id home index, none_if (id.home == home) (id.index == index) other)
+    omega (arith, count-one id (block home index), hit-name id home index, none_if (id.home == home) (id.index == index) other)
 
-count-home : (id : BlockId) (home n : ℕ) → count id (map (name_at home) (range_with_len 0 n)) ≡ (if id.home == home && nat_lt id.index n then 1 else 0)
+count-home : (id : BlockId) (home n : ℕ) → count id (map (block home) (range_with_len 0 n)) ≡ (if id.home == home && nat_lt id.index n then 1 else 0)
 count-home id home n =
     elim (cases_lt id.index n) [
       | inl below ↦
           let less : nat_lt id.index n ≡ true = lt-ltb _ _ below in
           let same : (id.index == id.index) ≡ true = eq-eqb id.index id.index refl in
-          let here : count id (name_at home id.index ∷ []) ≡ (if id.home == home && nat_lt id.index n then 1 else 0) =
-          count-one id (name_at home id.index) ∙ hit-name id home id.index ∙ rw (less, same) refl in
+          let here : count id (block home id.index ∷ []) ≡ (if id.home == home && nat_lt id.index n then 1 else 0) =
+          count-one id (block home id.index) ∙ hit-name id home id.index ∙ rw (less, same) refl in
           count-run_of id home n
-          ∙ sum_run-at (λ index. count id (name_at home index ∷ [])) id.index 0 n (omega arith) (omega (arith, below)) (λ index differ. other_index id home index differ) ∙ here
+          ∙ sum_run-at (λ index. count id (block home index ∷ [])) id.index 0 n (omega arith) (omega (arith, below)) (λ index differ. other_index id home index differ) ∙ here
       | inr past ↦
           let more : nat_lt id.index n ≡ false = le-ltb _ _ past in
           count-run_of id home n
-          ∙ sum_run-zero (λ index. count id (name_at home index ∷ [])) 0 n (λ index low high. other_index id home index (λ e. omega (arith, e, high, past)))
+          ∙ sum_run-zero (λ index. count id (block home index ∷ [])) 0 n (λ index low high. other_index id home index (λ e. omega (arith, e, high, past)))
           ∙ sym (none_if (id.home == home) (nat_lt id.index n) more)
     ]
 
-pub rising-home : (home : ℕ) → AreInOrder (blocks_of_home home)
-unfolding name_at
-rising-home home = rising-run home 0 home_blocks
-
-pub count-at_home : (id : BlockId) (home : ℕ) → count id (blocks_of_home home) ≡ one_if (id.home == home && nat_lt id.index home_blocks)
-unfolding name_at
+pub count-at_home : (id : BlockId) (home : ℕ) → count id (blocks_of_home home) ≡ truth_bit (id.home == home && nat_lt id.index home_blocks)
 count-at_home id home = count-home id home home_blocks
 
 pub stores-are-home : StoresAreHome
 stores-are-home home store rising each =
-    same-store store (blocks_of_home home) rising (rising-home home) (λ id. sym (count-is id store) ∙ each id ∙ sym (count-at_home id home))
+    same-rising store (blocks_of_home home) rising (rising-home home) (λ id. sym (count-is id store) ∙ each id ∙ sym (count-at_home id home))
 
 -- ---- the blocks of a cube, by their homes
 
@@ -147,27 +87,27 @@ count-filter p id (x ∷ ids) =
     ∙ ap (λ n. if p id then n else 0) (sym (count-cons id x ids))
 
 module _ (grant : CubeGrant) (ids : List BlockId) (all : AreAllBlocks grant ids) where
-  counted : (id : BlockId) → count id ids ≡ one_if (is_block_of grant id)
+  counted : (id : BlockId) → count id ids ≡ truth_bit (is_block_of grant id)
   counted id = sym (count-is id ids) ∙ all.once id
 
   own-block : (id : BlockId) → 1 ≤ count id ids → is_block_of grant id ≡ true
   own-block id some =
-      elim (cases_Bool (is_block_of grant id)) [ inl is ↦ is | inr other ↦ absurd (omega (arith, some, counted id, ap one_if other)) ]
+      elim (cases_Bool (is_block_of grant id)) [ inl is ↦ is | inr other ↦ absurd (omega (arith, some, counted id, ap truth_bit other)) ]
 
   abbrev of_home : ℕ → List BlockId
   of_home home = filter (λ id. id.home == home) ids
 
-  at_home : (home : ℕ) (id : BlockId) → is_home grant home ≡ true → count id (of_home home) ≡ one_if (id.home == home && nat_lt id.index home_blocks)
+  at_home : (home : ℕ) (id : BlockId) → is_home grant home ≡ true → count id (of_home home) ≡ truth_bit (id.home == home && nat_lt id.index home_blocks)
   at_home home id is =
       count-filter (λ id. id.home == home) id ids
       ∙ elim (cases_Bool (id.home == home)) [
         | inl here ↦
             let known : is_home grant id.home ≡ true = ap (is_home grant) (eqb-true _ _ here) ∙ is in
-            rw here (counted id ∙ ap (λ b. one_if (b && nat_lt id.index home_blocks)) known)
+            rw here (counted id ∙ ap (λ b. truth_bit (b && nat_lt id.index home_blocks)) known)
         | inr other ↦ rw other refl
       ]
 
-  few : (b : Bool) → one_if b ≤ 1
+  few : (b : Bool) → truth_bit b ≤ 1
   few true = omega arith
   few false = omega arith
 

@@ -10,10 +10,10 @@ use Rattle.ce_model.specs.declared.topology.BlockId.{BlockId}
 use Rattle.ce_model.specs.Limits.{block_room, greatest_targets, turn_calls}
 use Rattle.ce_model.specs.Blocks.{Block}
 use Rattle.ce_model.specs.Space.{Space, has_unused_window, block_named, places_at}
-use Rattle.ce_model.specs.Process.{Process, argument, call_number, moved_process}
+use Rattle.ce_model.specs.Process.{Process, argument, call_number, moved_process, instruction_outcome}
 use Rattle.ce_model.specs.Node.{Turn, Node, is_place, with_process, send_call, spawn_call, kill_call, process_at}
 use Rattle.ce_model.specs.Kernel.{CallOutcome, continuation, departure, turn_conclusion, return_outcome, stop_outcome, leave_outcome, read_outcome, process_left_behind, map_outcome, xmalloc, free_outcome, xfree, xlength, is_target, place_named, send_outcome, xsend, copies_outcome, xmsend_block, xmsend, spawn, ckill, KernelCall, kernel_calls, kernel_call, call_outcome, kernel}
-use Rattle.ce_model.specs.Saying.{Saying, saying_after_call, saying_after_instruction, instruction, turn_saying, saying_in, says}
+use Rattle.ce_model.specs.Saying.{Saying, saying_after_call, saying_after_instruction, turn_saying, saying_in, says}
 use Rattle.ce_solo.proofs.Calls.{call_numbered}
 use Rattle.ce_script.specs.Rounds.{asks_for_work}
 
@@ -182,7 +182,7 @@ runs-spending : (left : ℕ) (node : Node) (turn : Turn) → IsSpending turn.cal
 unfolding turn_saying
 runs-spending zero node turn = inl refl
 runs-spending (suc left) node turn =
-    instruction-spending left node turn (process_at node turn.pid) (instruction (process_at node turn.pid)) (λ node turn. runs-spending left node turn)
+    instruction-spending left node turn (process_at node turn.pid) (instruction_outcome (process_at node turn.pid)) (λ node turn. runs-spending left node turn)
 
 -- a node that doesn't ask for work was in a turn, and is in it
 pub record IsCalling (node : Node) (saying : Saying) : Type 0 where

@@ -20,6 +20,7 @@ use Rattle.ce_model.specs.Subcubes.{extract, node_of, is_inside}
 use Rattle.ce_model.specs.Renaming.{CubeGrant, block_outward, renamed_item}
 use Rattle.ce_model.specs.Views.{view}
 use Rattle.ce_model.specs.Machine.{MachineParts, HeldCube, after, nodes_of, host_record, all_parcels, HasHeldCube, cube_of}
+use Rattle.ce_model.specs.Literals.{block}
 use Rattle.ce_model.proofs.Subcubes.{is_inside-node_of, node_of-extract}
 use Rattle.ce_script.specs.Rounds.{asks_for_work}
 use Rattle.ce_solo.proofs.Counting.{count, count-nil, count-append, count-is, count-run, all-at_name, sum_run, sum_run-same, sum_run-add}
@@ -76,11 +77,7 @@ module _ (dim : ℕ) (grant : CubeGrant) (placed : IsPlaced dim grant) where
     of : IsBlockOf grant.dim own
     is : block_outward grant own ≡ id
 
-  name_at : ℕ → ℕ → BlockId
-  name_at home index = record { home = home; index = index }
-
   block-own : (id : BlockId) → is_block_of grant id ≡ true → IsOwn id
-  unfolding name_at
   block-own id is =
       let parts = and_parts _ _ is in
       let index : id.index < home_blocks = ltb-true _ _ parts.1 in
@@ -89,16 +86,16 @@ module _ (dim : ℕ) (grant : CubeGrant) (placed : IsPlaced dim grant) where
             let below = inside_below dim grant placed id.home inside in
             let node : (extract id.home grant.sub.mask == host_home) ≡ false = ne_eqb _ _ (λ e. omega (arith, below, few_relative dim grant placed, host_home_lem)) in
             record {
-              own = name_at (extract id.home grant.sub.mask) id.index;
+              own = block (extract id.home grant.sub.mask) id.index;
               of = record { home = inl below; index = index };
-              is = rw node (ap (λ home. name_at home id.index) (node_of-extract grant.sub id.home inside));
+              is = rw node (ap (λ home. block home id.index) (node_of-extract grant.sub id.home inside));
             }
         | inr host ↦
             let here : (host_home == host_home) ≡ true = eq-eqb host_home host_home refl in
             record {
-              own = name_at host_home id.index;
+              own = block host_home id.index;
               of = record { home = inr refl; index = index };
-              is = rw here (ap (λ home. name_at home id.index) (sym (eqb-true _ _ host)));
+              is = rw here (ap (λ home. block home id.index) (sym (eqb-true _ _ host)));
             }
       ]
 

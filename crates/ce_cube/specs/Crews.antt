@@ -7,22 +7,22 @@ use Rattle.ce_model.specs.Limits.{greatest_dim, host_home, greatest_blocks}
 use Rattle.ce_model.specs.Blocks.{Block, blocks_of_home}
 use Rattle.ce_model.specs.Node.{blocks_of}
 use Rattle.ce_model.specs.Subcubes.{IsSubcube, node_of}
-use Rattle.ce_model.specs.Cube.{Cube, node_numbers, opening, hoststore}
+use Rattle.ce_model.specs.Cube.{node_numbers}
 use Rattle.ce_model.specs.Renaming.{CubeGrant, block_outward, entry_inward}
 use Rattle.ce_model.specs.Views.{view}
-use Rattle.ce_model.specs.Machine.{MachineParts, IsMachine, IsLawful, cube_of}
+use Rattle.ce_model.specs.Machine.{MachineParts, IsMachine, IsLawful}
 use Rattle.xm_block.specs.Stores.{ids_of}
 use Rattle.ce_daemon.specs.declared.grant.Grant.{Grant}
 use Rattle.ce_daemon.specs.Boxes.{AreBoxes}
 use Rattle.ce_daemon.specs.Peeks.{cube_grant}
 use Rattle.ce_host.specs.declared.host.Host.{Host}
-use Rattle.rk_node.specs.Boxes.{Box, IsCleanBox, fresh_node_at}
+use Rattle.rk_node.specs.Boxes.{Box, IsCleanBox, IsIdleBox, fresh_node_at, home_of}
 use Rattle.rk_node.specs.declared.awaited_call.AwaitedCall.TheVariants.{Nothing}
 use Rattle.ce_machine.specs.Meanings.{MachineFacts}
 use Rattle.ce_script.specs.Rounds.{RoundKind, serial, IsRound, has_work}
-use Rattle.ce_script.specs.Moments.{IsCallOf}
+use Rattle.ce_script.specs.Moments.{IsCallOfUser}
 use Rattle.ce_cube.specs.declared.crew.SerialCrew.{SerialCrew}
-use Rattle.ce_cube.specs.Boxes.{IsHeldAs, AreInStep}
+use Rattle.ce_cube.specs.Boxes.{IsHeldAs, AreInStep, trace_store}
 use Rattle.ce_cube.specs.Rehoming.{AreAllBlocks}
 use Rattle.ce_cube.specs.Rounds.{dispatches_left}
 use Rattle.ce_cube.specs.Beside.{IsMix}
@@ -32,18 +32,10 @@ pub record IsLawfulMachine (machine : MachineFacts) : Type 0 where
   pub within : IsMachine machine.parts
   pub lawful : IsLawful machine.parts machine.history
 
--- the cube of a grant
-abbrev pub cube_of_grant : MachineParts → Grant → Cube
-cube_of_grant parts grant = cube_of parts.images (cube_grant grant)
-
 -- the box of relative node r
 abbrev pub box_at : List Box → ℕ → Box
 box_at boxes r = slice_index_or boxes r
     (record { node = fresh_node_at 0 0 0 0; room = 0; awaited_call = Nothing })
-
--- no call but a Take is out of the box
-abbrev pub IsIdleBox : Box → Type 0
-IsIdleBox box = box.awaited_call ≡ Nothing
 
 -- the box is idle, and it has room for all blocks of the greatest cube
 pub record IsReadyBox (box : Box) : Type 0 where
@@ -63,16 +55,16 @@ pub record IsHostInStep (parts : MachineParts) (history : List Entry) (grant : G
     (host : Host) : Type 0 where
   pub blocks : ids_of host.store.blocks
       ≡ map (block_outward (cube_grant grant))
-      (hoststore (opening (cube_of_grant parts grant)) (view history grant.number))
+      (trace_store parts history grant.number (cube_grant grant))
   pub room : host.store.spare + length host.store.blocks ≡ greatest_blocks
-  pub spare : host.spare ≡ Some []
+  pub spare : host.spare_batch ≡ Some []
 
 -- a host of a user that holds no cube has its own blocks, room for all of a cube, and its spare
 -- batch
 pub record IsHostAtHome (user : ℕ) (host : Host) : Type 0 where
   pub blocks : ids_of host.store.blocks ≡ blocks_of_home (host_home + user)
   pub room : host.store.spare + length host.store.blocks ≡ greatest_blocks
-  pub spare : host.spare ≡ Some []
+  pub spare : host.spare_batch ≡ Some []
 
 -- a crew as the laws see it: its cube, the boxes of the cube's nodes in relative order, the host of
 -- its user, and how many entries the cube's trace has
@@ -86,7 +78,7 @@ pub record CrewFacts : Type 0 where
 abbrev pub serial_facts : SerialCrew → CrewFacts
 serial_facts crew = record {
   grant = crew.grant;
-  boxes = crew.nodes.items;
+  boxes = crew.boxes.items;
   host = crew.host;
   entries = crew.entries;
 }
@@ -101,7 +93,7 @@ pub record IsCrewInStep (parts : MachineParts) (history : List Entry)
 
 -- these entries are calls of this user's cube
 abbrev pub AreCallsOf : ℕ → List Entry → Type 0
-AreCallsOf user new_entries = AllByRecursion (IsCallOf user) new_entries
+AreCallsOf user new_entries = AllByRecursion (IsCallOfUser user) new_entries
 
 -- Calls of a crew's cube went on with the machine's history: these are its user's entries of that
 -- stretch, and make the cube's trace longer. On one thread they are the whole stretch. The crew is
@@ -138,14 +130,17 @@ pub record HasMadeRound (kind : RoundKind) (old_machine new_machine : MachineFac
   pub works : has_work (map (entry_inward crew.grant.sub) round) ≡ gives_work
   pub host : crew'.host ≡ crew.host
 
+-- how many dispatches are still allowed in the cube
+abbrev pub cube_dispatches_left : MachineFacts → Grant → ℕ
+cube_dispatches_left machine grant =
+    dispatches_left machine.parts machine.history grant.number (cube_grant grant)
+
 -- A round went on, on one thread. Work takes one at least of the dispatches that are allowed.
 pub record HasMadeSerialRound (old_machine new_machine : MachineFacts) (crew crew' : CrewFacts)
     (gives_work : Bool) : Type 0 where
   pub made_round : HasMadeRound serial old_machine new_machine crew crew' gives_work
-  pub left : dispatches_left new_machine.parts new_machine.history crew.grant.number
-      (cube_grant crew.grant) + (if gives_work then 1 else 0)
-      ≤ dispatches_left old_machine.parts old_machine.history crew.grant.number
-      (cube_grant crew.grant)
+  pub left : cube_dispatches_left new_machine crew.grant + (if gives_work then 1 else 0)
+      ≤ cube_dispatches_left old_machine crew.grant
 
 -- ---- a cube that is given back
 
@@ -162,9 +157,9 @@ pub record HasAllBlocks (grant : CubeGrant) (boxes : List Box) (host : Host)
       (flat_map (λ r. blocks_of (box_at boxes r).node) (node_numbers grant.dim)
       ++ (map (λ block. block.id) drained_blocks ++ ids_of host.store.blocks))
   pub room : host.store.spare + length host.store.blocks ≡ greatest_blocks
-  pub spare : host.spare ≡ Some []
+  pub spare : host.spare_batch ≡ Some []
 
 -- all blocks of the cube are at home: the boxes are clean, and have their homes
 abbrev pub AreAllHome : CubeGrant → List Box → Host → Type 0
-AreAllHome grant boxes host = AreBoxes (λ box. box.node.home) IsCleanBox (2 ^ grant.dim)
-    (node_of grant.sub) boxes × IsHostAtHome grant.user host
+AreAllHome grant boxes host = AreBoxes home_of IsCleanBox (2 ^ grant.dim) (node_of grant.sub) boxes
+    × IsHostAtHome grant.user host

@@ -14,8 +14,8 @@ use Rattle.ce_machine.specs.Meanings.{MachineFacts}
 use Rattle.ce_script.specs.Rounds.{serial, asks_for_work, is_take, is_dispatch, IsTurn, has_work}
 use Rattle.ce_cube.specs.Boxes.{IsHeldAs, IsStandIn, trace_node, trace_store}
 use Rattle.ce_cube.specs.Hearable.{calls_left}
-use Rattle.ce_cube.specs.Rounds.{dispatches_left, IsPartOfRound}
-use Rattle.ce_cube.specs.Crews.{IsLawfulMachine, IsReadyBox, AreCallsOf, HasCrewGoneOn, CrewFacts}
+use Rattle.ce_cube.specs.Rounds.{IsPartOfRound}
+use Rattle.ce_cube.specs.Crews.{cube_dispatches_left, IsLawfulMachine, IsReadyBox, AreCallsOf, HasCrewGoneOn, CrewFacts}
 use Rattle.ce_daemon.specs.Peeks.{cube_grant}
 
 -- node r of this cube after the machine's history
@@ -27,11 +27,6 @@ machine_node machine grant r =
 abbrev pub machine_store : MachineFacts → Grant → List BlockId
 machine_store machine grant =
     trace_store machine.parts machine.history grant.number (cube_grant grant)
-
--- how many dispatches are still allowed in the cube
-abbrev pub cube_dispatches_left : MachineFacts → Grant → ℕ
-cube_dispatches_left machine grant =
-    dispatches_left machine.parts machine.history grant.number (cube_grant grant)
 
 -- the machine is lawful and within its limits, this cube is held, and r is one of its nodes
 pub record HasNode (machine : MachineFacts) (grant : Grant) (r : ℕ) : Type 0 where

@@ -7,7 +7,7 @@ use Rattle.ce_model.specs.Blocks.{is_same_id, with_ids, blocks_of_home}
 use Rattle.ce_model.specs.Parcels.{Parcel}
 use Rattle.ce_model.specs.Node.{Node, blocks_of}
 use Rattle.ce_model.specs.Cube.{node_numbers}
-use Rattle.ce_model.specs.Sound.{AreInOrder}
+use Rattle.ce_model.specs.Sound.{AreRisingIds}
 use Rattle.ce_model.specs.Subcubes.{is_inside}
 use Rattle.ce_model.specs.Renaming.{CubeGrant}
 
@@ -41,7 +41,7 @@ BlocksSort = (grant : CubeGrant) (ids : List BlockId) → AreAllBlocks grant ids
 
 -- a store with each block of this home once, and no other, is the one that this home begins with
 abbrev pub StoresAreHome : Type 0
-StoresAreHome = (home : ℕ) (store : List BlockId) → AreInOrder store
+StoresAreHome = (home : ℕ) (store : List BlockId) → AreRisingIds store
     → ((id : BlockId) → count_by (is_same_id id) store
     ≡ (if id.home == home && nat_lt id.index home_blocks then 1 else 0))
     → store ≡ blocks_of_home home

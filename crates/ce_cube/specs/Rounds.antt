@@ -53,7 +53,7 @@ pub record IsPartOfShare (r : ℕ) (entries : List Entry) : Type 0 where
 
 -- how a turn, a round and a node's share begin, go on by an entry or a turn, and end; and where a
 -- longer list of entries has work
-pub record AreMade : Type 0 where
+pub record RoundsAreMade : Type 0 where
   pub turn_begins : (r : ℕ) (entry : Entry) → entry.actor ≡ r → IsTrue (is_take entry)
       → IsTurn r (entry ∷ [])
   pub turn_goes_on : (r : ℕ) (turn : List Entry) (entry : Entry) → IsTurn r turn → entry.actor ≡ r

@@ -10,7 +10,7 @@ pub struct SerialCrew {
     /// The cube.
     pub grant: Grant,
     /// The boxes of its nodes, in relative order.
-    pub nodes: Vec<NodeBox>,
+    pub boxes: Vec<NodeBox>,
     /// The host.
     pub host: Host,
     /// How many entries the cube's trace has.

@@ -24,17 +24,19 @@ pub(crate) fn exchange(
     machine: &mut Machine<NodeBox>,
     grant: &Grant,
     r: u32,
-    node: &mut NodeBox,
+    node_box: &mut NodeBox,
     images: &[Image],
     say: Say,
 ) -> Result<bool, NoMemory>
     requires node { HasNode machine.old grant.now r }
     requires said { (box : Box)
-        × HasSaidCall machine.old grant.now r box node.old (call_of_say say) }
+        × HasSaidCall machine.old grant.now r box node_box.old (call_of_say say) }
     requires images { images.now ≡ machine.old.parts.images }
     ensures { MatchResult result
-        (λ work. (box : Box) → HasSaidCall machine.old grant.now r box node.old (call_of_say say)
-        → HasExchanged machine.old machine.new grant.now r box node.new (call_of_say say) work)
+        (λ gives_work. (box : Box)
+        → HasSaidCall machine.old grant.now r box node_box.old (call_of_say say)
+        → HasExchanged machine.old machine.new grant.now r box node_box.new (call_of_say say)
+        gives_work)
         (λ _. machine.new ≡ machine.old) }
 {
     let who = Who {
@@ -43,12 +45,12 @@ pub(crate) fn exchange(
     };
     let reply = match machine.act(alloc, who, Call::Say(say)) {
         Ok(reply) => reply,
-        Err((_, fault)) => return Err(fault),
+        Err((_, want)) => return Err(want),
     };
     let hearing = hearing_of_reply(reply);
-    let work = is_work(&hearing);
-    node.hears(images, hearing);
-    Ok(work)
+    let gives_work = is_work(&hearing);
+    node_box.hears(images, hearing);
+    Ok(gives_work)
 }
 
 /// What a machine's reply lets a node hear; it lets it hear something.

@@ -3,7 +3,7 @@
 //! lemmas that prove it.
 ghost use Rattle.ce_cube.specs.Laws.{BoxesSay, CallsAdd, BoxesHear, BoxesCanHear, TurnsEnd, OthersKeep, BesideKeeps, EntriesCount, IdleAsks, BoxesInStepEndTurns, RoundsRest, LooksEnd, BlocksAreWhole, GrantsBegin, HostsFit, HostsSend, HostsTake, ArmsAllow, DrainsFit};
 ghost use Rattle.ce_cube.specs.Rehoming.{BlocksSort, StoresAreHome};
-ghost use Rattle.ce_cube.specs.Rounds.{AreMade};
+ghost use Rattle.ce_cube.specs.Rounds.{RoundsAreMade};
 
 /// What a box says that stands for a node of the cube is the node's next call, and the machine
 /// takes it.
@@ -62,7 +62,7 @@ pub fn boxes_in_step_end_turns_law()
 
 /// Turns, rounds and shares of rounds are made entry by entry.
 pub fn rounds_are_made_law()
-    ensures law { AreMade }
+    ensures law { RoundsAreMade }
 {}
 
 /// Behind a round without work, of either kind, a cube is quiet, or its dispatches are used up.

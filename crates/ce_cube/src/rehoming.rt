@@ -9,10 +9,10 @@ ghost use Rattle.ce_model.specs.Views.{view};
 ghost use Rattle.ce_model.specs.Rising.{IsRising};
 ghost use Rattle.xm_block.specs.Stores.{ids_of, is_block_before};
 ghost use Rattle.ce_daemon.specs.Boxes.{AreGrantBoxes};
-ghost use Rattle.rk_node.specs.Boxes.{Box, IsCleanBox};
+ghost use Rattle.rk_node.specs.Boxes.{Box, IsCleanBox, IsIdleBox, home_of};
 ghost use Rattle.rk_node.specs.Hearings.{AreNewToStore};
 ghost use Rattle.ce_cube.specs.Boxes.{IsHeldAs};
-ghost use Rattle.ce_cube.specs.Crews.{AreAllHome, HasAllBlocks, IsCrewInStep, IsHostAtHome, IsIdleBox, serial_facts};
+ghost use Rattle.ce_cube.specs.Crews.{AreAllHome, HasAllBlocks, IsCrewInStep, IsHostAtHome, serial_facts};
 ghost use Rattle.ce_daemon.specs.Peeks.{cube_grant};
 ghost use Rattle.ce_cube.specs.Homecoming.{HasPrefix, IsEmptiedBox, emptied_box, entered_box, names_at_home, names_in_boxes, refilled_box};
 
@@ -24,11 +24,11 @@ use rk_node::NodeBox;
 use xm_block::{Block, Store};
 
 impl SerialCrew {
-    /// The crew of a cube that was just granted: its clean boxes become its nodes, for so many
-    /// images, `GREATEST_IMAGES` at most. The cube's dimension is `GREATEST_DIMENSION` at most, and
-    /// the host of its user has its own blocks alone.
-    pub fn new(grant: Grant, mut nodes: Vec<NodeBox>, host: Host, images: u32) -> SerialCrew
-        requires boxes { AreGrantBoxes (λ box. box.node.home) IsCleanBox grant nodes.items }
+    /// The crew of a cube that was just granted: its clean boxes become those of its nodes, for so
+    /// many images, `GREATEST_IMAGES` at most. The cube's dimension is `GREATEST_DIMENSION` at most,
+    /// and the host of its user has its own blocks alone.
+    pub fn new(grant: Grant, mut boxes: Vec<NodeBox>, host: Host, images: u32) -> SerialCrew
+        requires boxes { AreGrantBoxes home_of IsCleanBox grant boxes.items }
         requires host { IsHostAtHome grant.user host }
         requires dim { grant.dim ≤ greatest_dim }
         requires images { images ≤ greatest_images }
@@ -38,10 +38,10 @@ impl SerialCrew {
             → IsHeldAs history grant.number (cube_grant grant) → view history grant.number ≡ []
             → IsCrewInStep parts history (serial_facts result) }
     {
-        enter_all(nodes.as_mut_slice(), grant.dim, images);
+        enter_all(boxes.as_mut_slice(), grant.dim, images);
         SerialCrew {
             grant,
-            nodes,
+            boxes,
             host,
             entries: 0,
         }
@@ -49,17 +49,17 @@ impl SerialCrew {
 }
 
 /// Makes each clean box the node of its place in a cube of this dimension, for so many images.
-fn enter_all(nodes: &mut [NodeBox], dim: u32, images: u32)
-    requires clean { All IsCleanBox nodes.old }
-    requires all { length nodes.old ≡ 2 ^ dim }
+fn enter_all(boxes: &mut [NodeBox], dim: u32, images: u32)
+    requires clean { All IsCleanBox boxes.old }
+    requires all { length boxes.old ≡ 2 ^ dim }
     requires dim { dim ≤ greatest_dim }
     requires images { images ≤ greatest_images }
-    ensures { (r : ℕ) (other : Box) → r < length nodes.old
-        → slice_index_or nodes.new r other
-        ≡ entered_box dim images r (slice_index_or nodes.old r other) }
+    ensures { (r : ℕ) (other : Box) → r < length boxes.old
+        → slice_index_or boxes.new r other
+        ≡ entered_box dim images r (slice_index_or boxes.old r other) }
 {
-    for (relative, node) in nodes.iter_mut().enumerate() {
-        node.enter(relative as u32, dim, images);
+    for (number, node_box) in boxes.iter_mut().enumerate() {
+        node_box.enter(number as u32, dim, images);
     }
 }
 
@@ -68,29 +68,29 @@ fn enter_all(nodes: &mut [NodeBox], dim: u32, images: u32)
 /// call but a Take is out of a box. Each box and the host's store have room for all blocks of the
 /// greatest cube, and the host has its spare batch, empty. The boxes are clean then, and the host
 /// has its own blocks, with its room and its batch as before. Nothing can fail.
-pub fn rehome(nodes: &mut [NodeBox], host: &mut Host, drained_blocks: Vec<Block>)
+pub fn rehome(boxes: &mut [NodeBox], host: &mut Host, drained_blocks: Vec<Block>)
     requires all { (grant : CubeGrant)
-        × HasAllBlocks grant nodes.old host.old drained_blocks.items }
-    ensures home { (grant : CubeGrant) → HasAllBlocks grant nodes.old host.old drained_blocks.items
-        → AreAllHome grant nodes.new host.new }
+        × HasAllBlocks grant boxes.old host.old drained_blocks.items }
+    ensures home { (grant : CubeGrant) → HasAllBlocks grant boxes.old host.old drained_blocks.items
+        → AreAllHome grant boxes.new host.new }
 {
-    scrub_all(nodes, &mut host.store);
+    scrub_all(boxes, &mut host.store);
     give_all(drained_blocks, &mut host.store);
-    send_all_home(nodes, &mut host.store);
+    send_all_home(boxes, &mut host.store);
 }
 
 /// Moves every block of the boxes to the store, which has room for them; all these names differ.
-fn scrub_all(nodes: &mut [NodeBox], store: &mut Store)
-    requires idle { All IsIdleBox nodes.old }
-    requires room { length (names_in_boxes nodes.old) ≤ store.old.spare }
-    requires apart { AreNewToStore (names_in_boxes nodes.old) store.old }
-    ensures boxes { nodes.new ≡ map emptied_box nodes.old }
+fn scrub_all(boxes: &mut [NodeBox], store: &mut Store)
+    requires idle { All IsIdleBox boxes.old }
+    requires room { length (names_in_boxes boxes.old) ≤ store.old.spare }
+    requires apart { AreNewToStore (names_in_boxes boxes.old) store.old }
+    ensures boxes { boxes.new ≡ map emptied_box boxes.old }
     ensures moved { ids_of store.new.blocks
-        ≡ with_ids (names_in_boxes nodes.old) (ids_of store.old.blocks) }
-    ensures spare { store.new.spare + length (names_in_boxes nodes.old) ≡ store.old.spare }
+        ≡ with_ids (names_in_boxes boxes.old) (ids_of store.old.blocks) }
+    ensures spare { store.new.spare + length (names_in_boxes boxes.old) ≡ store.old.spare }
 {
-    for node in nodes.iter_mut() {
-        node.scrub(store);
+    for node_box in boxes.iter_mut() {
+        node_box.scrub(store);
     }
 }
 
@@ -112,24 +112,24 @@ fn give_all(blocks: Vec<Block>, store: &mut Store)
 }
 
 /// Gives each of these empty boxes the blocks of its home, which are the store's least, box by box.
-fn send_all_home(nodes: &mut [NodeBox], store: &mut Store)
-    requires emptied { All IsEmptiedBox nodes.old }
-    requires least { HasPrefix (names_at_home nodes.old) (ids_of store.old.blocks) }
-    ensures boxes { nodes.new ≡ map refilled_box nodes.old }
+fn send_all_home(boxes: &mut [NodeBox], store: &mut Store)
+    requires emptied { All IsEmptiedBox boxes.old }
+    requires least { HasPrefix (names_at_home boxes.old) (ids_of store.old.blocks) }
+    ensures boxes { boxes.new ≡ map refilled_box boxes.old }
     ensures rest { ids_of store.new.blocks
-        ≡ drop (length (names_at_home nodes.old)) (ids_of store.old.blocks) }
-    ensures spare { store.new.spare ≡ store.old.spare + length (names_at_home nodes.old) }
+        ≡ drop (length (names_at_home boxes.old)) (ids_of store.old.blocks) }
+    ensures spare { store.new.spare ≡ store.old.spare + length (names_at_home boxes.old) }
 {
-    for node in nodes.iter_mut() {
-        send_home(node, store);
+    for node_box in boxes.iter_mut() {
+        send_home(node_box, store);
     }
 }
 
 /// Gives an empty box the blocks of its home, which are the store's least.
-fn send_home(node: &mut NodeBox, store: &mut Store)
-    requires emptied { IsEmptiedBox node.old }
-    requires least { HasPrefix (blocks_of_home node.old.node.home) (ids_of store.old.blocks) }
-    ensures after { node.new ≡ refilled_box node.old }
+fn send_home(node_box: &mut NodeBox, store: &mut Store)
+    requires emptied { IsEmptiedBox node_box.old }
+    requires least { HasPrefix (blocks_of_home node_box.old.node.home) (ids_of store.old.blocks) }
+    ensures after { node_box.new ≡ refilled_box node_box.old }
     ensures rest { ids_of store.new.blocks ≡ drop home_blocks (ids_of store.old.blocks) }
     ensures spare { store.new.spare ≡ store.old.spare + home_blocks }
 {
@@ -137,6 +137,6 @@ fn send_home(node: &mut NodeBox, store: &mut Store)
         let Some(block) = store.take_least() else {
             unreachable!()
         };
-        node.put_home(block);
+        node_box.put_home(block);
     }
 }

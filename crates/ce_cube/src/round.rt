@@ -29,12 +29,12 @@ pub fn round_serial(
         (serial_facts crew.old) (serial_facts crew.new))
         (λ _. HasStopped machine.old machine.new crew.old.grant.user) }
 {
-    let count = crew.nodes.len() as u32;
-    let mut work = false;
+    let count = crew.boxes.len() as u32;
+    let mut gives_work = false;
     for r in 0..count {
-        work |= turn_of(alloc, machine, crew, r, images)?;
+        gives_work |= turn_of(alloc, machine, crew, r, images)?;
     }
-    Ok(work)
+    Ok(gives_work)
 }
 
 /// A turn of node r of the crew. Whether it was given work.
@@ -54,8 +54,8 @@ fn turn_of(
         (serial_facts crew.old) (serial_facts crew.new) r)
         (λ _. HasStopped machine.old machine.new crew.old.grant.user) }
 {
-    let node = &mut crew.nodes[r as usize];
-    let turn = take_turn(alloc, machine, &crew.grant, r, node, images)?;
+    let node_box = &mut crew.boxes[r as usize];
+    let turn = take_turn(alloc, machine, &crew.grant, r, node_box, images)?;
     crew.entries += turn.entries;
     Ok(turn.has_work)
 }

@@ -3,7 +3,7 @@ ghost use Rattle.std.specs.Prelude.{◌≡◌, IfErr, IfOk, IfSome, IfNone, IsTr
 ghost use Rattle.ce_model.specs.Saying.{says};
 ghost use Rattle.rk_mail.specs.Talk.{call_of_say};
 ghost use Rattle.rk_node.specs.Answering.{IsAwaitingAnswer};
-ghost use Rattle.rk_node.specs.declared.awaited_call.AwaitedCall.TheVariants.{Nothing};
+ghost use Rattle.rk_node.specs.Boxes.{IsIdleBox};
 ghost use Rattle.ce_script.specs.Rounds.{asks_for_work};
 ghost use Rattle.ce_cube.specs.Boxes.{IsInStep};
 ghost use Rattle.ce_cube.specs.Crews.{HasStopped, IsReadyBox};
@@ -35,45 +35,45 @@ pub(crate) fn take_turn(
     machine: &mut Machine<NodeBox>,
     grant: &Grant,
     r: u32,
-    node: &mut NodeBox,
+    node_box: &mut NodeBox,
     images: &[Image],
 ) -> Result<TurnResult, NoMemory>
     requires node { HasNode machine.old grant.now r }
-    requires ready { IsReadyBox node.old }
+    requires ready { IsReadyBox node_box.old }
     requires in_step { IsInStep (cube_grant grant.now)
-        (machine_node machine.old grant.now r) node.old.node }
+        (machine_node machine.old grant.now r) node_box.old.node }
     requires images { images.now ≡ machine.old.parts.images }
-    ensures turn { IfOk result (λ turn. IsTurnUnderWay machine.old machine.new grant.now r node.new
-        turn.has_work turn.entries) }
+    ensures turn { IfOk result (λ turn. IsTurnUnderWay machine.old machine.new grant.now r
+        node_box.new turn.has_work turn.entries) }
     ensures in_step { IfOk result (λ _. IsInStep (cube_grant grant.now)
-        (machine_node machine.new grant.now r) node.new.node) }
+        (machine_node machine.new grant.now r) node_box.new.node) }
     ensures stopped { IfErr result (λ _. HasStopped machine.old machine.new grant.now.user) }
 {
-    let take = node.says();
-    let work = exchange(alloc, machine, grant, r, node, images, take)?;
+    let take = node_box.says();
+    let gives_work = exchange(alloc, machine, grant, r, node_box, images, take)?;
     let mut entries = 1;
-    while let Some(say) = next_call(node) {
-        exchange(alloc, machine, grant, r, node, images, say)?;
+    while let Some(say) = next_call(node_box) {
+        exchange(alloc, machine, grant, r, node_box, images, say)?;
         entries += 1;
     }
     Ok(TurnResult {
-        has_work: work,
+        has_work: gives_work,
         entries,
     })
 }
 
 /// What the box says next, unless it asks for work: its turn is over then.
-fn next_call(node: &mut NodeBox) -> Option<Say>
-    requires idle { node.old.awaited_call ≡ Nothing }
-    ensures node { node.new.node ≡ (says node.old.node).node }
-    ensures room { node.new.room ≡ node.old.room }
-    ensures call { IfSome result (λ say. call_of_say say ≡ (says node.old.node).call) }
+fn next_call(node_box: &mut NodeBox) -> Option<Say>
+    requires idle { IsIdleBox node_box.old }
+    ensures node { node_box.new.node ≡ (says node_box.old.node).node }
+    ensures room { node_box.new.room ≡ node_box.old.room }
+    ensures call { IfSome result (λ say. call_of_say say ≡ (says node_box.old.node).call) }
     ensures goes_on { IfSome result (λ say. IsFalse (asks_for_work (call_of_say say))) }
-    ensures said { IfSome result (λ say. IsAwaitingAnswer node.new (call_of_say say)) }
-    ensures over { IfNone result (IsTrue (asks_for_work (says node.old.node).call)) }
-    ensures idle { IfNone result (node.new.awaited_call ≡ Nothing) }
+    ensures said { IfSome result (λ say. IsAwaitingAnswer node_box.new (call_of_say say)) }
+    ensures over { IfNone result (IsTrue (asks_for_work (says node_box.old.node).call)) }
+    ensures idle { IfNone result (IsIdleBox node_box.new) }
 {
-    match node.says() {
+    match node_box.says() {
         Say::Take { .. } => None,
         say => Some(say),
     }

@@ -12,12 +12,12 @@ use Rattle.ce_model.specs.Limits.{greatest_dim}
 use Rattle.ce_model.specs.Subcubes.{has_node, is_inside, extract, first_free_subcube, ones_of, IsSubcube}
 use Rattle.ce_model.proofs.Subcubes.{first_free-subcube, first_free-all_free, find-among, is_inside-within, extract-below, node_of-extract}
 use Rattle.ce_set.proofs.Steps.{pow_le}
-use Rattle.ce_set.proofs.WordBits.{below-has_bit}
+use Rattle.ce_set.proofs.WordBits.{below-is_member}
 use Rattle.ce_daemon.specs.declared.grant.Grant.{Grant}
 use Rattle.ce_daemon.specs.Boxes.{AreBoxes, AreGrantBoxes, HasBox, IsNodeBox}
 use Rattle.ce_daemon.specs.Holding.{is_grant_of}
 use Rattle.ce_daemon.specs.Sound.{IsSoundDaemon}
-use Rattle.ce_daemon.proofs.Counting.{one_if}
+use Rattle.ce_daemon.proofs.Counting.{truth_bit}
 use Rattle.ce_daemon.proofs.Partition.{IsPartition-granted, IsPartition-freed, single-granted, single-freed}
 
 -- a subcube of a machine is one of each larger machine
@@ -46,12 +46,12 @@ IsSound-new {N} home clean dim free boxes small are all =
       within = within;
       partition = λ node below.
           let here : has_node free node ≡ true = ap (λ word. word / 2 ^ node % 2 == 1) all ∙ ap (λ x. x == 1) (bit_at_ones (2 ^ dim) node below) in
-          omega (arith, ap one_if here);
+          omega (arith, ap truth_bit here);
       subcubes = All-nil (λ (g : Grant). IsSubcube dim g.dim g.sub);
       single = λ user. omega arith;
       all = length-map boxes Some ∙ are.all;
       filled = λ node here.
-          let below : node < length boxes = omega (arith, are.all, below-has_bit free.0 (2 ^ dim) node within here) in
+          let below : node < length boxes = omega (arith, are.all, below-is_member free.0 (2 ^ dim) node within here) in
           boxes-placed (λ n one. IsNodeBox home clean n one) boxes node below (λ r other h. are.each r other (omega (arith, are.all)));
     }
 

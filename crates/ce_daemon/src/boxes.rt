@@ -36,22 +36,22 @@ pub(crate) fn places_of<N: Homed>(alloc: Global, boxes: Vec<N>) -> Result<Vec<Op
 pub(crate) fn take_out<N: Homed>(
     places: &mut Vec<Option<N>>,
     sub: &Subcube,
-    d: u32,
+    cube_dim: u32,
     boxes: &mut Vec<N>,
 )
-    requires subcube { IsSubcube greatest_dim d sub.now }
-    requires filled { (r : ℕ) → r < 2 ^ d
+    requires subcube { IsSubcube greatest_dim cube_dim sub.now }
+    requires filled { (r : ℕ) → r < 2 ^ cube_dim
         → HasBox N.home N.clean places.old.items (node_of sub.now r) }
-    requires places { (r : ℕ) → r < 2 ^ d → node_of sub.now r < length places.old.items }
-    requires room { 2 ^ d ≤ vec_capacity boxes.old }
+    requires places { (r : ℕ) → r < 2 ^ cube_dim → node_of sub.now r < length places.old.items }
+    requires room { 2 ^ cube_dim ≤ vec_capacity boxes.old }
     requires empty { boxes.old.items ≡ [] }
-    ensures taken { AreBoxes N.home N.clean (2 ^ d) (node_of sub.now) boxes.new.items }
+    ensures taken { AreBoxes N.home N.clean (2 ^ cube_dim) (node_of sub.now) boxes.new.items }
     ensures others { (node : ℕ) → IsFalse (is_inside sub.now node)
         → HasBox N.home N.clean places.old.items node
         → HasBox N.home N.clean places.new.items node }
     ensures all { length places.new.items ≡ length places.old.items }
 {
-    for r in 0..1u32 << d {
+    for r in 0..1u32 << cube_dim {
         let node = node_of(sub, r) as usize;
         let place = &mut places[node];
         let Some(node_box) = place.take() else {

@@ -80,42 +80,42 @@ impl<N: Homed> Daemon<N> {
         find_grant(&self.grants, user)
     }
 
-    /// Grants the user, who holds none, the first subcube of dimension `d` whose nodes are all
-    /// free, and hands out the boxes of its nodes in relative order. None exactly where no such
+    /// Grants the user, who holds none, the first subcube of dimension `cube_dim` whose nodes are
+    /// all free, and hands out the boxes of its nodes in relative order. None exactly where no such
     /// subcube is free. `NoMemory` may come at any time, and always comes once 2^64 - 1 grants were
     /// made.
     pub fn getcube(
         &mut self,
         alloc: Global,
         user: u32,
-        d: u32,
+        cube_dim: u32,
     ) -> Result<Option<(Grant, Vec<N>)>, NoMemory>
         requires none_held { grant_held_by self.old user ≡ None }
         ensures first { IfOk result (λ answer. option_map (λ pair. pair.0.sub) answer
-            ≡ first_free_subcube (is_ungranted self.old) self.old.dim d) }
+            ≡ first_free_subcube (is_ungranted self.old) self.old.dim cube_dim) }
         ensures grant { IfGranted result (λ pair. pair.0
-            ≡ next_grant self.old.count user d pair.0.sub) }
+            ≡ next_grant self.old.count user cube_dim pair.0.sub) }
         ensures boxes { IfGranted result
             (λ pair. AreGrantBoxes N.home N.clean pair.0 pair.1.items) }
         ensures after { IfGranted result (λ pair. self.new ≡ table_with_grant pair.0 self.old) }
         ensures refused { IfOk result (λ answer. IfNone answer (self.new ≡ self.old)) }
         ensures unchanged { OnErr result (self.new ≡ self.old) }
     {
-        let Some(sub) = first_free(self.free_nodes, self.dim, d) else {
+        let Some(sub) = first_free(self.free_nodes, self.dim, cube_dim) else {
             return Ok(None);
         };
         let count = self.count.checked_add(1).ok_or(NoMemory)?;
-        let mut boxes = Vec::with_capacity(alloc, 1usize << d)?;
+        let mut boxes = Vec::with_capacity(alloc, 1usize << cube_dim)?;
         let grant = Grant {
             number: self.count,
             user,
-            dim: d,
+            dim: cube_dim,
             sub,
         };
         self.grants.push(grant)?;
         self.count = count;
         self.free_nodes = difference(self.free_nodes, nodes_of(&sub));
-        take_out(&mut self.places, &sub, d, &mut boxes);
+        take_out(&mut self.places, &sub, cube_dim, &mut boxes);
         Ok(Some((grant, boxes)))
     }
 

@@ -1,4 +1,5 @@
-ghost use Rattle.std.specs.Prelude.{◌≡◌, ◌==◌, find};
+ghost use Rattle.std.specs.Prelude.{◌≡◌, find};
+ghost use Rattle.ce_daemon.specs.Holding.{is_grant_of};
 
 use ce_model::Subcube;
 use std::marker::Model;
@@ -58,7 +59,7 @@ pub struct PeekResult {
 
 // The first of the grants that the user holds.
 pub(crate) fn find_grant(grants: &[Grant], user: u32) -> Option<Grant>
-    ensures { result ≡ find (λ grant. grant.user == user) grants.now }
+    ensures { result ≡ find (is_grant_of user) grants.now }
 {
     grants.iter().find(|grant| grant.user == user).copied()
 }

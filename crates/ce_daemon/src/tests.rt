@@ -33,9 +33,9 @@ fn no_fit(rt: HostRuntime) -> Result<(), Fail> {
     assert_eq!(rt; c.sub, Subcube { mask: 0, base: 2 });
     daemon.freecube(0, of_a);
     assert!(rt; daemon.getcube(alloc, 3, 1)?.is_none());
-    let shown = daemon.peek(alloc)?;
-    assert_eq!(rt; shown.free, 2);
-    assert_eq!(rt; shown.grants.as_slice(), [b, c].as_slice());
+    let peek_result = daemon.peek(alloc)?;
+    assert_eq!(rt; peek_result.free, 2);
+    assert_eq!(rt; peek_result.grants.as_slice(), [b, c].as_slice());
     assert_eq!(rt; daemon.free_nodes(), NodeSet(9));
     Ok(())
 }

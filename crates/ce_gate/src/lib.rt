@@ -7,7 +7,7 @@
 pub trait Gate: Sync {
     /// Called by the worker of this user and this relative node before its next Take. `turn` is the
     /// number of Takes that the worker made so far in this cube.
-    fn before(&self, user: u32, actor: u32, turn: u64);
+    fn pass(&self, user: u32, actor: u32, turn: u64);
 }
 
 /// The gate of ordinary use: it holds nobody back.
@@ -15,21 +15,5 @@ pub trait Gate: Sync {
 pub struct OpenGate;
 
 impl Gate for OpenGate {
-    fn before(&self, _user: u32, _actor: u32, _turn: u64) {}
-}
-
-#[cfg(test)]
-mod tests {
-    use super::*;
-
-    fn pass<G: Gate>(gate: &G, turns: u64) {
-        for turn in 0..turns {
-            gate.before(1, 2, turn);
-        }
-    }
-
-    #[test]
-    fn open_holds_nobody_back() {
-        pass(&OpenGate, 3);
-    }
+    fn pass(&self, _user: u32, _actor: u32, _turn: u64) {}
 }

@@ -17,7 +17,7 @@ pub struct Host {
     /// Its blocks. It has room for all of a cube.
     pub store: Store,
     /// The batch, which is away while a message is on its way.
-    pub spare: Option<Batch>,
+    pub spare_batch: Option<Batch>,
 }
 
 impl Host {
@@ -29,18 +29,18 @@ impl Host {
         ensures blocks { IfOk result (λ host. ids_of host.store.blocks
             ≡ blocks_of_home (host_home + user)) }
         ensures room { IfOk result (λ host. host.store.spare + home_blocks ≡ greatest_blocks) }
-        ensures spare { IfOk result (λ host. host.spare ≡ Some []) }
+        ensures spare { IfOk result (λ host. host.spare_batch ≡ Some []) }
     {
         let store = Store::of_home(alloc, HOST_HOME + user, GREATEST_BLOCKS)?;
-        let spare = Some(Batch::new(alloc)?);
-        Ok(Host { store, spare })
+        let spare_batch = Some(Batch::new(alloc)?);
+        Ok(Host { store, spare_batch })
     }
 
     /// A message of these bytes, `BLOCK_ROOM` at most, to the place, in the host's least block;
     /// None where it has no block. The spare batch is here and empty.
     pub fn batch(&mut self, to: Place, bytes: &[u8]) -> Option<Batch>
         requires short { length bytes.now ≤ block_room }
-        requires here { self.old.spare ≡ Some [] }
+        requires here { self.old.spare_batch ≡ Some [] }
         ensures empty { IsNone result ↔ (self.old.store.blocks ≡ []) }
         ensures message { result ≡ message_for_place to bytes.now self.old.store.blocks }
         ensures least { option_map targets_of result
@@ -49,11 +49,11 @@ impl Host {
             ≡ without_targets (targets_of batch) (ids_of self.old.store.blocks)) }
         ensures rest { self.new.store.blocks ≡ drop 1 self.old.store.blocks }
         ensures room { IfSome result (λ _. self.new.store.spare ≡ self.old.store.spare + 1) }
-        ensures away { IfSome result (λ _. self.new.spare ≡ None) }
+        ensures away { IfSome result (λ _. self.new.spare_batch ≡ None) }
         ensures unchanged { IfNone result (self.new ≡ self.old) }
     {
         let mut block = self.store.take_least()?;
-        let Some(mut batch) = self.spare.take() else {
+        let Some(mut batch) = self.spare_batch.take() else {
             unreachable!()
         };
         block.fill(bytes);
@@ -64,9 +64,9 @@ impl Host {
     /// Takes the batch back, which is empty again.
     pub fn regain(&mut self, batch: Batch)
         requires { batch ≡ [] }
-        ensures { self.new ≡ record self.old { spare = Some [] } }
+        ensures { self.new ≡ record self.old { spare_batch = Some [] } }
     {
-        self.spare = Some(batch);
+        self.spare_batch = Some(batch);
     }
 
     /// The bytes of a parcel that came. Its block goes to the store, which has room for it and none

@@ -2,7 +2,7 @@ ghost use Rattle.std.specs.Prelude.{◌≡◌, ◌≤◌, length, [], Some, IfSo
 ghost use Rattle.ce_model.specs.Limits.{block_room};
 
 use super::*;
-use ce_model::{BlockId, Bytes, HOST, HOST_HOME, NoMemory, Place};
+use ce_model::{BlockId, Bytes, HOME_BLOCKS, HOST, HOST_HOME, NoMemory, Place};
 use rk_mail::Parcel;
 use std::alloc::Global;
 use std::test::Fail;
@@ -14,8 +14,8 @@ const TARGET: Place = Place { node: 2, pid: 1 };
 // None where there was none.
 fn sent_block(host: &mut Host, bytes: &[u8]) -> Option<Block>
     requires short { length bytes.now ≤ block_room }
-    requires here { host.old.spare ≡ Some [] }
-    ensures here { host.new.spare ≡ Some [] }
+    requires here { host.old.spare_batch ≡ Some [] }
+    ensures here { host.new.spare_batch ≡ Some [] }
 {
     let mut batch = host.batch(TARGET, bytes)?;
     let (_, block) = batch.take_first()?;
@@ -36,12 +36,12 @@ fn a_message_keeps_its_sender_and_bytes(rt: HostRuntime) -> Result<(), Fail> {
     let alloc = rt.alloc();
     let from = Place { node: 3, pid: 1 };
     let bytes = Bytes::from_vec(vec![in alloc; 0xAA_u8, 0xBB]?);
-    let Some((sender, told)) = message_in(Answer::Message(from, bytes)) else {
+    let Some((sender, message_bytes)) = message_in(Answer::Message(from, bytes)) else {
         assert!(rt; false, "another answer");
         return Ok(());
     };
     assert_eq!(rt; sender, from);
-    assert_eq!(rt; told.as_slice(), [0xAA, 0xBB].as_slice());
+    assert_eq!(rt; message_bytes.as_slice(), [0xAA, 0xBB].as_slice());
     Ok(())
 }
 
@@ -59,7 +59,7 @@ fn a_command_is_printed_with_its_operands(rt: HostRuntime) -> Result<(), Fail> {
 fn a_host_sends_its_own_blocks_in_order(rt: HostRuntime) -> Result<(), Fail> {
     let mut host = Host::new(rt.alloc(), 7)?;
     let home = HOST_HOME + 7;
-    for index in 0..32 {
+    for index in 0..HOME_BLOCKS {
         let block = sent_block(&mut host, b"hi").ok_or("no block")?;
         assert_eq!(rt; block.id(), BlockId { home, index });
         assert_eq!(rt; block.bytes(), b"hi".as_slice());
@@ -77,9 +77,9 @@ fn a_received_block_is_sent_next(rt: HostRuntime) -> Result<(), Fail> {
     let mut host = Host::new(alloc, 0)?;
     let mut block = Block::new(alloc, BlockId { home: 3, index: 9 })?;
     block.fill(b"abc");
-    let told = host.accept(alloc, parcel(block)).map_err(|(_, want)| want)?;
-    assert_eq!(rt; told.as_slice(), b"abc".as_slice());
-    assert_eq!(rt; host.store.count(), 33);
+    let bytes = host.accept(alloc, parcel(block)).map_err(|(_, want)| want)?;
+    assert_eq!(rt; bytes.as_slice(), b"abc".as_slice());
+    assert_eq!(rt; host.store.count(), HOME_BLOCKS + 1);
     let next = sent_block(&mut host, &[]).ok_or("no block")?;
     assert_eq!(rt; next.id(), BlockId { home: 3, index: 9 });
     assert_eq!(rt; next.bytes().len(), 0);

@@ -5,4 +5,4 @@ use Rattle.ce_io.specs.declared.whole.ReadError.TheVariants.{TooLong, Read, Memo
 abbrev pub IsReadNoMemory : ReadError → Type 0
 IsReadNoMemory TooLong = ⊥
 IsReadNoMemory Read = ⊥
-IsReadNoMemory (Memory fault) = Unit {0}
+IsReadNoMemory (Memory want) = Unit {0}

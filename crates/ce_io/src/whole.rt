@@ -32,8 +32,8 @@ impl From<AllocError> for ReadError {
 
     ghost from_gives = { λ _ e. IsReadNoMemory e };
 
-    fn from(fault: AllocError) -> Self {
-        ReadError::Memory(NoMemory::from(fault))
+    fn from(want: AllocError) -> Self {
+        ReadError::Memory(NoMemory::from(want))
     }
 }
 

@@ -10,6 +10,7 @@ use lib.Seq.{map-set}
 use Rattle.atomic_table.specs.Table.{State, opening, Splits, Joins, Final, Seen}
 use Rattle.atomic_table.proofs.Lists.{set_again, at_map, at_longer, set_else}
 use Rattle.ce_model.specs.declared.topology.TheConstants.{HOST}
+use Rattle.ce_model.proofs.Members.{all-back, all-weaker}
 use Rattle.ce_lock.specs.declared.view.QueuePlace.{QueuePlace}
 use Rattle.ce_lock.specs.declared.view.Right.{Right}
 use Rattle.ce_lock.specs.declared.view.JoinedHead.{JoinedHead}
@@ -17,12 +18,12 @@ use Rattle.ce_lock.specs.declared.view.View.{View}
 use Rattle.ce_lock.specs.Entries.{longer_list, AtEach}
 use Rattle.ce_lock.specs.Meanings.{Meanings}
 use Rattle.ce_lock.specs.OneOrder.{IsQueue, IsFair, IsHeaded, IsSeated, IsGone, IsMissable, IsJoinedHead, IsToldPage, IsBookInOrder}
-use Rattle.ce_lock.specs.Telling.{idle_place, no_actor, view_copy, view_after_making, next_head, view_with_out, actor_view, view_after_meeting, view_after_joining, joined_head_of, view_after_closing, spent_view, first_view, IsClosingObject}
+use Rattle.ce_lock.specs.Telling.{idle_place, no_actor, spent_right, view_copy, view_after_making, next_head, view_with_out, actor_view, view_after_meeting, view_after_joining, joined_head_of, view_after_closing, spent_view, first_view, IsClosingObject}
 use Rattle.ce_lock.proofs.Members.{in_none, in_cases}
 use Rattle.ce_lock.proofs.Seats.{at_same, at_other, at_one, at_added, map_added, map_kept, each_kept, each_added, each_unset}
 use Rattle.ce_lock.proofs.Tickets.{come}
-use Rattle.ce_lock.proofs.Fair.{spent_right, still_in, copy_comes, copy_gone, sends, sent_gone, makes, made_gone, spent_gone, copy_goes, head_goes, head_gone, takes_back, back_gone}
-use Rattle.ce_lock.proofs.Histories.{every_map, every_both, every_back, told_copy, told_fresh, told_sent, told_sender, told_joins, told_last, longer_is}
+use Rattle.ce_lock.proofs.Fair.{still_in, copy_comes, copy_gone, sends, sent_gone, makes, made_gone, spent_gone, copy_goes, head_goes, head_gone, takes_back, back_gone}
+use Rattle.ce_lock.proofs.Histories.{every_both, told_copy, told_fresh, told_sent, told_sender, told_joins, told_last, longer_is}
 use Rattle.ce_lock.proofs.Moves.{is_true_or_false, right_at, place_at, not_spent}
 
 clash : {P : Type 0} → false ≡ true → P
@@ -95,7 +96,7 @@ module _ {O E F : Type 0} (m : Meanings O E F) (o : O) (families : ℕ) where
       }
     where
       gone_at : (ls : List (JoinedHead E)) → AllByRecursion (λ l. IsGone (rights s.views) l.family) ls → AllByRecursion (λ l. IsGone (set (rights s.views) id right ++ u.right ∷ []) l.family) ls
-      gone_at ls g = every_map (λ (l : JoinedHead E). IsGone (rights s.views) l.family) (λ l. IsGone (set (rights s.views) id right ++ u.right ∷ []) l.family) (λ l h. gone l.family h) ls g
+      gone_at ls g = all-weaker (λ (l : JoinedHead E). IsGone (rights s.views) l.family) (λ l. IsGone (set (rights s.views) id right ++ u.right ∷ []) l.family) ls (λ l h. gone l.family h) g
 
   -- the list of rights, with one of them set to itself
   same_rights : (s : State O (View O E)) (id : ℕ) (v : View O E) → get_elem? s.views id ≡ some v → set (rights s.views) id v.right ≡ rights s.views
@@ -114,8 +115,8 @@ module _ {O E F : Type 0} (m : Meanings O E F) (o : O) (families : ℕ) where
       (made_gone families (rights s.views) r.fair id v.right at' some_heads room)
       (λ _. record { opening_is = told.opening_is; missed_entries = told.missed_entries; whole = told.whole; missable = told.missable; own = told.own; older_histories = told.older_histories; joined_heads = told.joined_heads })
       (λ _. told_fresh m o r.history v.right (next_head v).right v.page told
-      (every_map (λ e. (m.whose e).family < v.right.heads) (λ e. (m.whose e).family ≢ v.right.heads) (λ e l is. absurd (omega arith)) r.history family_below)) refl
-      (λ z. absurd (omega arith)) (λ _. every_map (λ e. (m.whose e).family < v.right.heads) (λ e. (m.whose e).family < v.right.heads + 1) (λ e l. omega arith) r.history family_below)
+      (all-weaker (λ e. (m.whose e).family < v.right.heads) (λ e. (m.whose e).family ≢ v.right.heads) r.history (λ e l is. absurd (omega arith)) family_below)) refl
+      (λ z. absurd (omega arith)) (λ _. all-weaker (λ e. (m.whose e).family < v.right.heads) (λ e. (m.whose e).family < v.right.heads + 1) r.history (λ e l. omega arith) family_below)
 
   pub sends_out : (id a : ℕ) (v : View O E) → v.right.may_draw ≡ true → v.right.actor ≡ HOST → a ≢ HOST → a < 2 ^ 32 → ¬ Contains v.right.absent_actors a → Splits IsRuled id v (view_with_out a v) (actor_view m.whose a v)
   sends_out id a v d host other small free s r at = let at' = at_map (λ (w : View O E). w.right) s.views id v at in let told = r.told id v at (not_spent m o families s r id v at d) in
@@ -157,7 +158,7 @@ module _ {O E F : Type 0} (m : Meanings O E F) (o : O) (families : ℕ) where
         gone = subst (λ (rs : List Right). AtEach us (λ x. AllByRecursion (λ l. IsGone rs l.family) x.page.joined_heads)) (sym rights_are)
             (each_kept (λ (x : View O E). AllByRecursion (λ l. IsGone (set (set (rights s.views) id both.right) other spent_right) l.family) x.page.joined_heads) vs other spent_view tt
             (each_kept (λ (x : View O E). AllByRecursion (λ l. IsGone (set (set (rights s.views) id both.right) other spent_right) l.family) x.page.joined_heads) s.views id both lasts
-            (λ j x e. every_map (λ (l : JoinedHead E). IsGone (rights s.views) l.family) (λ l. IsGone (set (set (rights s.views) id both.right) other spent_right) l.family) (λ l h. gone l.family h) x.page.joined_heads (r.gone j x e))));
+            (λ j x e. all-weaker (λ (l : JoinedHead E). IsGone (rights s.views) l.family) (λ l. IsGone (set (set (rights s.views) id both.right) other spent_right) l.family) x.page.joined_heads (λ l h. gone l.family h) (r.gone j x e))));
         made = each_kept (λ (x : View O E). 0 < x.right.heads → AllByRecursion (λ e. (m.whose e).family < x.right.heads) r.history) vs other spent_view (λ z. absurd (omega arith))
             (each_kept (λ (x : View O E). 0 < x.right.heads → AllByRecursion (λ e. (m.whose e).family < x.right.heads) r.history) s.views id both made r.made);
         longest = let l = r.longest in dite (ℕ_discrete l.0 id)
@@ -181,7 +182,7 @@ module _ {O E F : Type 0} (m : Meanings O E F) (o : O) (families : ℕ) where
       goes s r id other v w (view_after_meeting v w) at ne at_w idle idle_w idle live
       (subst (IsFair families) (sym back) (copy_goes families (rights s.views) r.fair other w.right at_r (ap (λ (x : Right). x.may_draw) copied)))
       gone
-      (every_map (λ (l : JoinedHead E). IsGone (rights s.views) l.family) (λ l. IsGone (set (set (rights s.views) id v.right) other spent_right) l.family) (λ l h. gone l.family h) v.page.joined_heads (r.gone id v at))
+      (all-weaker (λ (l : JoinedHead E). IsGone (rights s.views) l.family) (λ l. IsGone (set (set (rights s.views) id v.right) other spent_right) l.family) v.page.joined_heads (λ l h. gone l.family h) (r.gone id v at))
       (told_joins m o r.history v.right v.right v.page w.page.seen told_w.missed_entries v.page.joined_heads told told_w.whole refl refl told.joined_heads (λ _ es h mid e. h))
       (r.made id v at)
       (λ is. whole_first v.page.seen told.missed_entries w.page.seen told_w.missed_entries r.history told.whole told_w.whole is)
@@ -198,10 +199,10 @@ module _ {O E F : Type 0} (m : Meanings O E F) (o : O) (families : ℕ) where
       goes s r id other v w (view_after_joining v w) at ne at_w idle idle_w idle live
       (takes_back families (rights s.views) r.fair id other v.right w.right at_r d host at_rw dw family worker)
       gone
-      (every_map (λ (l : JoinedHead E). IsGone (rights s.views) l.family) (λ l. IsGone (set (set (rights s.views) id (view_after_joining v w).right) other spent_right) l.family) (λ l h. gone l.family h) v.page.joined_heads (r.gone id v at))
+      (all-weaker (λ (l : JoinedHead E). IsGone (rights s.views) l.family) (λ l. IsGone (set (set (rights s.views) id (view_after_joining v w).right) other spent_right) l.family) v.page.joined_heads (λ l h. gone l.family h) (r.gone id v at))
       (told_joins m o r.history v.right (view_after_joining v w).right v.page w.page.seen told_w.missed_entries v.page.joined_heads told told_w.whole refl refl told.joined_heads
       (λ _ es h mid e. every_both (IsMissable m v.right) (IsMissable m w.right) (IsMissable m (view_after_joining v w).right) (both_miss v w family) es h
-      (every_back (IsMissable m w.right) mid es (subst (AllByRecursion (IsMissable m w.right)) (sym e) (told_w.missable dw)))))
+      (all-back (IsMissable m w.right) mid es (subst (AllByRecursion (IsMissable m w.right)) (sym e) (told_w.missable dw)))))
       (r.made id v at)
       (λ is. whole_first v.page.seen told.missed_entries w.page.seen told_w.missed_entries r.history told.whole told_w.whole is)
       (λ is. whole_second v.page.seen told.missed_entries w.page.seen told_w.missed_entries r.history told.whole told_w.whole is)
@@ -225,7 +226,7 @@ module _ {O E F : Type 0} (m : Meanings O E F) (o : O) (families : ℕ) where
       (subst (IsFair families) (sym back) (head_goes families (rights s.views) r.fair other w.right at_rw dw host alone))
       gone (
         subst (λ (l : List Right). IsGone l w.right.family) (sym back) (head_gone families (rights s.views) r.fair other w.right at_rw dw host alone),
-        every_map (λ (l : JoinedHead E). IsGone (rights s.views) l.family) (λ l. IsGone (set (set (rights s.views) id v.right) other spent_right) l.family) (λ l h. gone l.family h) v.page.joined_heads (r.gone id v at),
+        all-weaker (λ (l : JoinedHead E). IsGone (rights s.views) l.family) (λ l. IsGone (set (set (rights s.views) id v.right) other spent_right) l.family) v.page.joined_heads (λ l h. gone l.family h) (r.gone id v at),
       )
       (told_joins m o r.history v.right v.right v.page w.page.seen told_w.missed_entries (joined_head_of w ∷ v.page.joined_heads) told told_w.whole refl refl
       (told_last m o r.history w.right w.page told_w dw host alone fresh, told.joined_heads) (λ d es h mid e. h))

@@ -7,6 +7,7 @@ use native.Mathlib.Decide.{ℕ_discrete}
 use Rattle.atomic_table.specs.Seated.{TableId}
 use Rattle.atomic_table.specs.Table.{Me}
 use Rattle.ce_model.specs.declared.topology.TheConstants.{HOST}
+use Rattle.ce_model.proofs.Members.{all-back}
 use Rattle.ce_lock.specs.declared.view.JoinedHead.{JoinedHead}
 use Rattle.ce_lock.specs.declared.view.View.{View}
 use Rattle.ce_lock.specs.Entries.{entries_of}
@@ -15,7 +16,6 @@ use Rattle.ce_lock.specs.OneOrder.{IsJoinedHead}
 use Rattle.ce_lock.specs.Telling.{fresh_head, joined_head_of}
 use Rattle.ce_lock.specs.Sitting.{BookFacts, SeatFacts, IsSeatOf, IsNewHead, IsHeadIn, IsWholeSeat, IsSoundSeat, who}
 use Rattle.ce_lock.proofs.Members.{in_first, in_later, in_cases}
-use Rattle.ce_lock.proofs.Histories.{every_back}
 
 module _ {O E F : Type 0} (m : Meanings O E F) where
   -- a new head is sound
@@ -56,10 +56,10 @@ covers f (s ∷ ss) h = let rest = map (λ (l : JoinedHead _). l.family) (map (�
     ⊎_elim (λ (t : f ≡ (who s).family). in_first f (who s).family rest t) (λ (t : Contains (map (λ (x : SeatFacts _ _). (who x).family) ss) f). in_later f (who s).family rest (covers f ss t))
     (in_cases f (who s).family (map (λ (x : SeatFacts _ _). (who x).family) ss) h)
 
-module _ {O E F : Type 0} (m : Meanings O E F) (book : BookFacts O) where
+module _ {O E : Type 0} (book : BookFacts O) where
   -- the seat of a new head is that of its family
-  pub new_head : (n heads : ℕ) (z : TableId) (v : View O E) → z ≡ book.table → v ≡ fresh_head book.opening n heads → IsNewHead m book n (z, v)
-  new_head n heads z v table is = subst (λ (x : View O E). IsNewHead m book n (z, x)) (sym is) record {
+  pub new_head : (n heads : ℕ) (z : TableId) (v : View O E) → z ≡ book.table → v ≡ fresh_head book.opening n heads → IsNewHead book n (z, v)
+  new_head n heads z v table is = subst (λ (x : View O E). IsNewHead book n (z, x)) (sym is) record {
     of_book = λ k. (table k, Some book.opening);
     actor = refl;
     nothing_seen = refl;
@@ -69,15 +69,16 @@ module _ {O E F : Type 0} (m : Meanings O E F) (book : BookFacts O) where
   }
 
   -- one more head is added
-  pub heads_grow : (items : List (SeatFacts O E)) (n : ℕ) (s : SeatFacts O E) → length items ≡ n → ((k : ℕ) (d : SeatFacts O E) → k < n → IsNewHead m book k (get_or items k d)) → IsNewHead m book n s
-      → (k : ℕ) (d : SeatFacts O E) → k < n + 1 → IsNewHead m book k (get_or (items ++ s ∷ []) k d)
+  pub heads_grow : (items : List (SeatFacts O E)) (n : ℕ) (s : SeatFacts O E) → length items ≡ n → ((k : ℕ) (d : SeatFacts O E) → k < n → IsNewHead book k (get_or items k d)) → IsNewHead book n s
+      → (k : ℕ) (d : SeatFacts O E) → k < n + 1 → IsNewHead book k (get_or (items ++ s ∷ []) k d)
   heads_grow items n s count all mine k d low = dite (ℕ_discrete k n)
-      (λ is. subst (λ (x : ℕ × SeatFacts O E). IsNewHead m book x.0 x.1) (λ j. (sym is j, sym (ap (λ (i : ℕ). get_or (items ++ s ∷ []) i d) is ∙ get_or_push items s d n count) j)) mine)
-      (λ ne. let below : k < length items = omega arith in subst (IsNewHead m book k) (sym (get_or_append_left items (s ∷ []) d k below)) (all k d (omega arith)))
+      (λ is. subst (λ (x : ℕ × SeatFacts O E). IsNewHead book x.0 x.1) (λ j. (sym is j, sym (ap (λ (i : ℕ). get_or (items ++ s ∷ []) i d) is ∙ get_or_push items s d n count) j)) mine)
+      (λ ne. let below : k < length items = omega arith in subst (λ (x : SeatFacts O E). IsNewHead book k x) (sym (get_or_append_left items (s ∷ []) d k below)) (all k d (omega arith)))
 
+module _ {O E F : Type 0} (m : Meanings O E F) (book : BookFacts O) where
   -- what holds of all heads holds of one among them
   pub one_of : (front : List (SeatFacts O E)) (s : SeatFacts O E) (closed all : List (SeatFacts O E)) → front ++ s ∷ closed ≡ all → AllByRecursion (IsHeadIn m book) all → IsHeadIn m book s
-  one_of front s closed all is heads = (every_back (IsHeadIn m book) front (s ∷ closed) (subst (AllByRecursion (IsHeadIn m book)) (sym is) heads)).0
+  one_of front s closed all is heads = (all-back (IsHeadIn m book) front (s ∷ closed) (subst (AllByRecursion (IsHeadIn m book)) (sym is) heads)).0
 
 module _ {O E : Type 0} where
   -- a seat of a book is of its table

@@ -10,16 +10,12 @@ use Rattle.ce_model.specs.declared.topology.TheConstants.{HOST}
 use Rattle.ce_lock.specs.declared.view.Right.{Right}
 use Rattle.ce_lock.specs.Entries.{ids_without}
 use Rattle.ce_lock.specs.OneOrder.{IsFair, IsHeaded, IsSeated, IsGone}
-use Rattle.ce_lock.specs.Telling.{no_actor}
+use Rattle.ce_lock.specs.Telling.{no_actor, spent_right, drawing_right}
 use Rattle.ce_lock.proofs.Members.{in_none, in_first, in_later, in_cases}
 use Rattle.ce_lock.proofs.Seats.{at_same, at_other, at_one, at_end, each_kept, each_set, each_added, at_added}
 
 clash : {P : Type 0} → false ≡ true → P
 clash e = absurd (cc)
-
--- the right of a spent view
-abbrev pub spent_right : Right
-spent_right = record { is_spent = true; may_draw = false; family = 0; actor = 0; heads = 0; absent_actors = [] }
 
 -- a right of which only the list of those who are out, or the count of heads, may be another
 pub record IsAlike (x y : Right) : Type 0 where
@@ -160,7 +156,7 @@ module _ (families : ℕ) (rs : List Right) (f : IsFair families rs) where
     more = record r { absent_actors = a ∷ r.absent_actors }
 
     abbrev worker : Right
-    worker = record { is_spent = false; may_draw = true; family = r.family; actor = a; heads = 0; absent_actors = [] }
+    worker = drawing_right r.family a 0
 
     abbrev sent_rights : List Right
     sent_rights = set rs id more ++ worker ∷ []
@@ -260,7 +256,7 @@ module _ (families : ℕ) (rs : List Right) (f : IsFair families rs) where
     maker_now = record r { heads = 0 }
 
     abbrev head_now : Right
-    head_now = record { is_spent = false; may_draw = true; family = r.heads; actor = HOST; heads = r.heads + 1; absent_actors = [] }
+    head_now = drawing_right r.heads HOST (r.heads + 1)
 
     abbrev made_rights : List Right
     made_rights = set rs id maker_now ++ head_now ∷ []

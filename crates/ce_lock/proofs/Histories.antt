@@ -6,6 +6,7 @@ use mathlib.Core.Logic.{dite}
 use native.Mathlib.Decide.{ℕ_discrete, dec_lt}
 use Rattle.ce_model.specs.declared.topology.TheConstants.{HOST}
 use Rattle.ce_model.specs.Lists.{IsFront}
+use Rattle.ce_model.proofs.Members.{all-append, all-back, all-weaker}
 use Rattle.ce_lock.specs.declared.who.Who.{Who}
 use Rattle.ce_lock.specs.declared.view.Right.{Right}
 use Rattle.ce_lock.specs.declared.view.JoinedHead.{JoinedHead}
@@ -13,21 +14,10 @@ use Rattle.ce_lock.specs.declared.view.Page.{Page}
 use Rattle.ce_lock.specs.Entries.{longer_list, is_of, entries_of, IsForeignEntry}
 use Rattle.ce_lock.specs.Meanings.{Meanings}
 use Rattle.ce_lock.specs.OneOrder.{who_of, IsMissable, IsJoinedHead, IsToldPage}
+use Rattle.ce_lock.specs.Telling.{drawing_right}
 use Rattle.ce_lock.proofs.Members.{in_none, in_later}
 
 module _ {A : Type 0} where
-  pub every_append : (P : A → Type 0) (xs ys : List A) → AllByRecursion P xs → AllByRecursion P ys → AllByRecursion P (xs ++ ys)
-  every_append P [] ys h k = k
-  every_append P (x ∷ xs) ys h k = (h.0, every_append P xs ys h.1 k)
-
-  pub every_back : (P : A → Type 0) (xs ys : List A) → AllByRecursion P (xs ++ ys) → AllByRecursion P ys
-  every_back P [] ys h = h
-  every_back P (x ∷ xs) ys h = every_back P xs ys h.1
-
-  pub every_map : (P Q : A → Type 0) → ((x : A) → P x → Q x) → (xs : List A) → AllByRecursion P xs → AllByRecursion Q xs
-  every_map P Q f [] h = tt
-  every_map P Q f (x ∷ xs) h = (f x h.0, every_map P Q f xs h.1)
-
   pub every_both : (P Q R : A → Type 0) → ((x : A) → P x → Q x → R x) → (xs : List A) → AllByRecursion P xs → AllByRecursion Q xs → AllByRecursion R xs
   every_both P Q R f [] h k = tt
   every_both P Q R f (x ∷ xs) h k = (f x h.0 k.0, every_both P Q R f xs h.1 k.1)
@@ -104,21 +94,21 @@ module _ {E : Type 0} (whose : E → Who) where
 
   -- what is missed has none of the actor's
   pub own_missed : (alone : E → Bool) (who : Who) (seen missed_entries : List E) → AllByRecursion (IsForeignEntry whose alone who) missed_entries → entries_of whose who (seen ++ missed_entries) ≡ entries_of whose who seen
-  own_missed alone who seen missed_entries f = own_append who seen missed_entries ∙ (ap (λ (l : List E). entries_of whose who seen ++ l) (own_none who missed_entries (every_map (IsForeignEntry whose alone who) (λ e. is_of whose who e ≡ false) (not_of alone who) missed_entries f)) ∙ append-nil (entries_of whose who seen))
+  own_missed alone who seen missed_entries f = own_append who seen missed_entries ∙ (ap (λ (l : List E). entries_of whose who seen ++ l) (own_none who missed_entries (all-weaker (IsForeignEntry whose alone who) (λ e. is_of whose who e ≡ false) missed_entries (not_of alone who) f)) ∙ append-nil (entries_of whose who seen))
 
 module _ {O E F : Type 0} (m : Meanings O E F) (opening : O) where
   foreign_of : (r : Right) (e : E) → IsMissable m r e → IsForeignEntry m.whose m.alone (who_of r) e
   foreign_of r e h = h.0
 
   pub foreign_missed : (r : Right) (es : List E) → AllByRecursion (IsMissable m r) es → AllByRecursion (IsForeignEntry m.whose m.alone (who_of r)) es
-  foreign_missed r es h = every_map (IsMissable m r) (IsForeignEntry m.whose m.alone (who_of r)) (foreign_of r) es h
+  foreign_missed r es h = all-weaker (IsMissable m r) (IsForeignEntry m.whose m.alone (who_of r)) es (foreign_of r) h
 
   last_grows : (h : List E) (e : E) (l : JoinedHead E) → IsJoinedHead m h l → (m.whose e).family ≢ l.family → IsJoinedHead m (h ++ e ∷ []) l
   last_grows h e l is ne = record {
     missed_entries = is.missed_entries ++ e ∷ [];
     whole = sym (append_assoc l.seen is.missed_entries (e ∷ [])) ∙ ap (λ (x : List E). x ++ e ∷ []) is.whole;
     own = own_other m.whose (record { family = l.family; actor = HOST }) h e (not_of m.whose m.alone (record { family = l.family; actor = HOST }) e (inl ne)) ∙ is.own;
-    others = every_append (λ x. (m.whose x).family ≢ l.family) is.missed_entries (e ∷ []) is.others (ne, tt);
+    others = all-append (λ x. (m.whose x).family ≢ l.family) is.missed_entries (e ∷ []) is.others (ne, tt);
   }
 
   lasts_grow : (h : List E) (e : E) (ls : List (JoinedHead E)) → AllByRecursion (IsJoinedHead m h) ls → AllByRecursion (λ l. (m.whose e).family ≢ l.family) ls → AllByRecursion (IsJoinedHead m (h ++ e ∷ [])) ls
@@ -131,9 +121,9 @@ module _ {O E F : Type 0} (m : Meanings O E F) (opening : O) where
     opening_is = t.opening_is;
     missed_entries = t.missed_entries ++ e ∷ [];
     whole = sym (append_assoc p.seen t.missed_entries (e ∷ [])) ∙ ap (λ (x : List E). x ++ e ∷ []) t.whole;
-    missable = λ d. every_append (IsMissable m r) t.missed_entries (e ∷ []) (t.missable d) (fine d, tt);
+    missable = λ d. all-append (IsMissable m r) t.missed_entries (e ∷ []) (t.missable d) (fine d, tt);
     own = λ d. own_other m.whose (who_of r) h e (not_of m.whose m.alone (who_of r) e (fine d).0) ∙ t.own d;
-    older_histories = every_map (λ old. IsFront old h) (λ old. IsFront old (h ++ e ∷ [])) (λ old x. front_grows old h (e ∷ []) x) p.older_histories t.older_histories;
+    older_histories = all-weaker (λ old. IsFront old h) (λ old. IsFront old (h ++ e ∷ [])) p.older_histories (λ old x. front_grows old h (e ∷ []) x) t.older_histories;
     joined_heads = lasts_grow h e p.joined_heads t.joined_heads apart;
   }
 
@@ -146,7 +136,7 @@ module _ {O E F : Type 0} (m : Meanings O E F) (opening : O) where
     whole = append-nil (p.seen ++ e ∷ []) ∙ ap (λ (x : List E). x ++ e ∷ []) all;
     missable = λ d. tt;
     own = λ d. own_mine m.whose (who_of r) h e (of_actor m.whose (who_of r) e mine) ∙ (ap (λ (x : List E). x ++ e ∷ []) (t.own d) ∙ append_assoc p.earlier p.mine (e ∷ []));
-    older_histories = every_map (λ old. IsFront old h) (λ old. IsFront old (h ++ e ∷ [])) (λ old x. front_grows old h (e ∷ []) x) p.older_histories t.older_histories;
+    older_histories = all-weaker (λ old. IsFront old h) (λ old. IsFront old (h ++ e ∷ [])) p.older_histories (λ old x. front_grows old h (e ∷ []) x) t.older_histories;
     joined_heads = lasts_grow h e p.joined_heads t.joined_heads apart;
   }
 
@@ -173,19 +163,19 @@ module _ {O E F : Type 0} (m : Meanings O E F) (opening : O) where
     opening_is = t.opening_is;
     missed_entries = t.missed_entries;
     whole = t.whole;
-    missable = λ d. every_map (λ e. (m.whose e).family ≢ r'.family) (IsMissable m r') (λ e ne. (inl ne, λ _ same. absurd (ne same))) t.missed_entries
-        (every_back (λ e. (m.whose e).family ≢ r'.family) p.seen t.missed_entries (subst (AllByRecursion (λ e. (m.whose e).family ≢ r'.family)) (sym t.whole) none));
-    own = λ d. own_none m.whose (who_of r') h (every_map (λ e. (m.whose e).family ≢ r'.family) (λ e. is_of m.whose (who_of r') e ≡ false) (λ e ne. not_of m.whose m.alone (who_of r') e (inl ne)) h none);
+    missable = λ d. all-weaker (λ e. (m.whose e).family ≢ r'.family) (IsMissable m r') t.missed_entries (λ e ne. (inl ne, λ _ same. absurd (ne same)))
+        (all-back (λ e. (m.whose e).family ≢ r'.family) p.seen t.missed_entries (subst (AllByRecursion (λ e. (m.whose e).family ≢ r'.family)) (sym t.whole) none));
+    own = λ d. own_none m.whose (who_of r') h (all-weaker (λ e. (m.whose e).family ≢ r'.family) (λ e. is_of m.whose (who_of r') e ≡ false) h (λ e ne. not_of m.whose m.alone (who_of r') e (inl ne)) none);
     older_histories = tt;
     joined_heads = tt;
   }
 
   -- a copy for an actor that a head sends out
   pub told_sent : (h : List E) (r : Right) (p : Page O E) (a : ℕ) → IsToldPage m opening h r p → r.may_draw ≡ true → r.actor ≡ HOST → a ≢ HOST → ¬ Contains r.absent_actors a
-      → IsToldPage m opening h (record { is_spent = false; may_draw = true; family = r.family; actor = a; heads = 0; absent_actors = [] })
+      → IsToldPage m opening h (drawing_right r.family a 0)
       (record { opening = p.opening; seen = p.seen; earlier = entries_of m.whose (record { family = r.family; actor = a }) p.seen; mine = []; older_histories = []; joined_heads = [] })
-  told_sent h r p a t d host other free = let r' : Right = record { is_spent = false; may_draw = true; family = r.family; actor = a; heads = 0; absent_actors = [] } in
-      let fine : AllByRecursion (IsMissable m r') t.missed_entries = every_map (IsMissable m r) (IsMissable m r') (λ e x. (worker e x, λ is. absurd (other is))) t.missed_entries (t.missable d) in record {
+  told_sent h r p a t d host other free = let r' : Right = drawing_right r.family a 0 in
+      let fine : AllByRecursion (IsMissable m r') t.missed_entries = all-weaker (IsMissable m r) (IsMissable m r') t.missed_entries (λ e x. (worker e x, λ is. absurd (other is))) (t.missable d) in record {
         opening_is = t.opening_is;
         missed_entries = t.missed_entries;
         whole = t.whole;
@@ -207,7 +197,7 @@ module _ {O E F : Type 0} (m : Meanings O E F) (opening : O) where
     opening_is = t.opening_is;
     missed_entries = t.missed_entries;
     whole = t.whole;
-    missable = λ d. every_map (IsMissable m r) (IsMissable m (record r { absent_actors = a ∷ r.absent_actors })) (λ e x. (x.0, λ host same. in_later (m.whose e).actor a r.absent_actors (x.1 host same))) t.missed_entries (t.missable d);
+    missable = λ d. all-weaker (IsMissable m r) (IsMissable m (record r { absent_actors = a ∷ r.absent_actors })) t.missed_entries (λ e x. (x.0, λ host same. in_later (m.whose e).actor a r.absent_actors (x.1 host same))) (t.missable d);
     own = t.own;
     older_histories = t.older_histories;
     joined_heads = t.joined_heads;
@@ -223,7 +213,7 @@ module _ {O E F : Type 0} (m : Meanings O E F) (opening : O) where
       (λ (x : (longer_list p.seen seen ≡ p.seen) × ((mid : List E) × (seen ++ mid ≡ p.seen) × (missed_entries ≡ mid ++ t.missed_entries))).
       joined t.missed_entries (ap (λ (l : List E). l ++ t.missed_entries) x.0 ∙ t.whole) (λ d. fine d t.missed_entries (t.missable d) x.1.0 (sym x.1.2)))
       (λ (x : (longer_list p.seen seen ≡ seen) × ((mid : List E) × (p.seen ++ mid ≡ seen) × (t.missed_entries ≡ mid ++ missed_entries))).
-      joined missed_entries (ap (λ (l : List E). l ++ missed_entries) x.0 ∙ whole) (λ d. fine d missed_entries (every_back (IsMissable m r) x.1.0 missed_entries (subst (AllByRecursion (IsMissable m r)) x.1.2 (t.missable d))) [] refl))
+      joined missed_entries (ap (λ (l : List E). l ++ missed_entries) x.0 ∙ whole) (λ d. fine d missed_entries (all-back (IsMissable m r) x.1.0 missed_entries (subst (AllByRecursion (IsMissable m r)) x.1.2 (t.missable d))) [] refl))
       (longer_is p.seen t.missed_entries seen missed_entries h t.whole whole)
     where
       joined : (left : List E) → longer_list p.seen seen ++ left ≡ h → (r.may_draw ≡ true → AllByRecursion (IsMissable m r') left) → IsToldPage m opening h r' (record p { seen = longer_list p.seen seen; older_histories = p.seen ∷ seen ∷ p.older_histories; joined_heads = lasts })
@@ -244,5 +234,5 @@ module _ {O E F : Type 0} (m : Meanings O E F) (opening : O) where
     missed_entries = t.missed_entries;
     whole = t.whole;
     own = ap (λ (a : ℕ). entries_of m.whose (record { family = r.family; actor = a }) h) (sym host) ∙ (t.own d ∙ ap (λ (l : List E). l ++ p.mine) none);
-    others = every_map (IsMissable m r) (λ e. (m.whose e).family ≢ r.family) (λ e x same. let there : Contains [] (m.whose e).actor = subst (λ (xs : List ℕ). Contains xs (m.whose e).actor) nobody_out (x.1 host same) in in_none (m.whose e).actor there) t.missed_entries (t.missable d);
+    others = all-weaker (IsMissable m r) (λ e. (m.whose e).family ≢ r.family) t.missed_entries (λ e x same. let there : Contains [] (m.whose e).actor = subst (λ (xs : List ℕ). Contains xs (m.whose e).actor) nobody_out (x.1 host same) in in_none (m.whose e).actor there) (t.missable d);
   }

@@ -12,6 +12,7 @@ use Rattle.atomic_table.specs.Table.{State, Me, keeps, takes, gives, put_back, r
 use Rattle.atomic_table.proofs.Lists.{set_again, at_map, set_here}
 use Rattle.ce_model.specs.declared.topology.TheConstants.{HOST}
 use Rattle.ce_model.specs.Lists.{IsFront}
+use Rattle.ce_model.proofs.Members.{all-append, all-weaker}
 use Rattle.ce_lock.specs.declared.who.Who.{Who}
 use Rattle.ce_lock.specs.declared.view.QueuePlace.{QueuePlace}
 use Rattle.ce_lock.specs.declared.view.Right.{Right}
@@ -26,7 +27,7 @@ use Rattle.ce_lock.proofs.Seats.{at_same, at_other, at_one, at_unmap, map_kept, 
 use Rattle.ce_lock.proofs.Tickets.{retell, draw, leave, one_at_turn, served}
 use Rattle.ce_lock.proofs.Fair.{its_head}
 use Rattle.ce_lock.proofs.Pigeons.{at_most}
-use Rattle.ce_lock.proofs.Histories.{foreign_missed, own_missed, told_grows, told_wrote, told_reads, told_settles, every_append, every_map, between}
+use Rattle.ce_lock.proofs.Histories.{foreign_missed, own_missed, told_grows, told_wrote, told_reads, told_settles, between}
 
 clash : {P : Type 0} → false ≡ true → P
 clash e = absurd (cc)
@@ -292,8 +293,8 @@ module _ {O E F : Type 0} (m : Meanings O E F) (opening : O) (families : ℕ) wh
           lawful = fronts (m.fixed opening) seen missed_entries (subst (m.lawful (m.fixed opening)) (sym told.whole) r.lawful);
           short = let short : length r.history < 2 ^ 63 = r.short in omega arith;
           own = λ d. sym (own_missed m.whose m.alone (who_of me.0.right) seen missed_entries (foreign_missed m opening me.0.right missed_entries (told.missable d))) ∙ (ap (entries_of m.whose (who_of me.0.right)) told.whole ∙ told.own d);
-          longest = every_map (λ old. IsFront old r.history) (λ old. length old ≤ length seen → IsFront old seen)
-              (λ old p le. let t = between old p.0 seen missed_entries (p.1 ∙ sym told.whole) le in (t.0, t.1)) me.0.page.older_histories told.older_histories;
+          longest = all-weaker (λ old. IsFront old r.history) (λ old. length old ≤ length seen → IsFront old seen)
+              me.0.page.older_histories (λ old p le. let t = between old p.0 seen missed_entries (p.1 ∙ sym told.whole) le in (t.0, t.1)) told.older_histories;
         },
       )
 
@@ -327,8 +328,8 @@ module _ {O E F : Type 0} (m : Meanings O E F) (opening : O) (families : ℕ) wh
     )
 
     apart_from_gone : (j : ℕ) (u : V) → get_elem? s.views j ≡ some u → AllByRecursion (λ l. (m.whose e).family ≢ l.family) u.page.joined_heads
-    apart_from_gone j u at' = every_map (λ l. IsGone (map right_of s.views) l.family) (λ l. (m.whose e).family ≢ l.family)
-        (λ l g is. (g id v.right (right_at s.views id v at)).0 d (sym family_is ∙ is)) u.page.joined_heads (r.gone j u at')
+    apart_from_gone j u at' = all-weaker (λ l. IsGone (map right_of s.views) l.family) (λ l. (m.whose e).family ≢ l.family)
+        u.page.joined_heads (λ l g is. (g id v.right (right_at s.views id v at)).0 d (sym family_is ∙ is)) (r.gone j u at')
 
   pub commits : (slots id : ℕ) (me : M) (t : ℕ) (y o : O) (e : E) → me.0.place ≡ place_holding t → me.1 ≡ (0, y) ∷ [] → me.0.page.opening ≡ Some o → m.history y ≡ me.0.page.seen ++ e ∷ []
       → m.lawful (m.fixed o) (me.0.page.seen ++ e ∷ []) → length (me.0.page.seen ++ e ∷ []) < 2 ^ 63 → m.whose e ≡ who_of me.0.right
@@ -375,5 +376,5 @@ module _ {O E F : Type 0} (m : Meanings O E F) (opening : O) (families : ℕ) wh
     where
       maker_knows : (s : St) (r : IsRuled s) (id : ℕ) (v : V) → get_elem? s.views id ≡ some v → v.right.may_draw ≡ true → (e : E) → m.whose e ≡ who_of v.right → (j : ℕ) (u : V) → get_elem? s.views j ≡ some u
           → 0 < u.right.heads → AllByRecursion (λ x. (m.whose x).family < u.right.heads) (r.history ++ e ∷ [])
-      maker_knows s r id v at d e mine j u at' some_heads = every_append (λ x. (m.whose x).family < u.right.heads) r.history (e ∷ []) (r.made j u at' some_heads)
+      maker_knows s r id v at d e mine j u at' some_heads = all-append (λ x. (m.whose x).family < u.right.heads) r.history (e ∷ []) (r.made j u at' some_heads)
           (subst (λ (z : ℕ). z < u.right.heads) (sym (ap (λ (w : Who). w.family) mine)) (r.fair.made j id u.right v.right (right_at s.views j u at') (right_at s.views id v at) some_heads d), tt)

@@ -1,4 +1,4 @@
--- The rule of a book: the six points that hold between any two steps.
+-- The rule of a book: the six points that hold between any two accesses.
 use Rattle.std.specs.Prelude.{◌≡◌, ◌≢◌, ℕ, ◌+◌, ◌%◌, ◌^◌, ◌<◌, ◌≤◌, true, false, List, [], ◌∷◌, ◌++◌, map, length, Some}
 use Rattle.std.specs.List.{AllByRecursion, Contains}
 use mathlib.Core.Option.{some}

@@ -57,6 +57,15 @@ module _ {O E : Type 0} where
   abbrev pub IsSeatOf : BookFacts O → SeatFacts O E → Type 0
   IsSeatOf book s = name_of s ≡ (book.table, Some book.opening)
 
+  -- the head of family `number` of a fresh book
+  pub record IsNewHead (book : BookFacts O) (number : ℕ) (s : SeatFacts O E) : Type 0 where
+    pub of_book : IsSeatOf book s
+    pub actor : who s ≡ record { family = number; actor = HOST }
+    pub nothing_seen : seen_history s ≡ []
+    pub nothing_earlier : earlier s ≡ []
+    pub nothing_made : mine s ≡ []
+    pub nobody_out : out s ≡ []
+
   -- the seat is still of its book and its actor, and was made when it was
   pub record IsSameSeat (s next_s : SeatFacts O E) : Type 0 where
     pub name : name_of next_s ≡ name_of s
@@ -89,15 +98,6 @@ module _ {O E F : Type 0} (m : Meanings O E F) where
   pub IsSeatBehind-front : (s : SeatFacts O E) (whole_history : List E)
       → IsSeatBehind s whole_history → IsFront (seen_history s) whole_history
   IsSeatBehind-front s whole_history behind = (behind.missed_entries, behind.whole)
-
-  -- The head of family `number` of a fresh book.
-  pub record IsNewHead (book : BookFacts O) (number : ℕ) (s : SeatFacts O E) : Type 0 where
-    pub of_book : IsSeatOf book s
-    pub actor : who s ≡ record { family = number; actor = HOST }
-    pub nothing_seen : seen_history s ≡ []
-    pub nothing_earlier : earlier s ≡ []
-    pub nothing_made : mine s ≡ []
-    pub nobody_out : out s ≡ []
 
   -- A head of the book that has nobody out.
   pub record IsHeadIn (book : BookFacts O) (s : SeatFacts O E) : Type 0 where

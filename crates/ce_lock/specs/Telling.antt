@@ -1,6 +1,6 @@
--- What each kind of step tells the seat that makes it, and how a view is cut in two and two are
+-- What each kind of access tells the seat that makes it, and how a view is cut in two and two are
 -- joined.
-use Rattle.std.specs.Prelude.{◌≡◌, ◌≢◌, ℕ, ◌+◌, ◌%◌, ◌^◌, ◌<◌, ◌≤◌, true, false, List, [], ◌∷◌, ◌++◌, length, Some, None}
+use Rattle.std.specs.Prelude.{◌≡◌, ◌≢◌, ℕ, ◌+◌, ◌%◌, ◌^◌, ◌<◌, ◌≤◌, true, false, List, [], ◌∷◌, ◌++◌, length, Option, Some, None}
 use Rattle.std.specs.List.{AllByRecursion}
 use Rattle.atomic_table.specs.Table.{Me, rest}
 use Rattle.ce_model.specs.declared.topology.TheConstants.{HOST}
@@ -40,7 +40,33 @@ no_actor = record {
   absent_actors = [];
 }
 
+-- the right of a seat that was joined into another
+abbrev pub spent_right : Right
+spent_right = record no_actor { is_spent = true }
+
+-- the right of who may draw, with no actor out
+abbrev pub drawing_right : ℕ → ℕ → ℕ → Right
+drawing_right family actor heads = record {
+  is_spent = false;
+  may_draw = true;
+  family = family;
+  actor = actor;
+  heads = heads;
+  absent_actors = [];
+}
+
 module _ {O E : Type 0} where
+  -- the page of who has seen nothing yet
+  abbrev pub blank_page : Option O → Page O E
+  blank_page opening = record {
+    opening = opening;
+    seen = [];
+    earlier = [];
+    mine = [];
+    older_histories = [];
+    joined_heads = [];
+  }
+
   -- the view at another place
   abbrev pub view_at : View O E → QueuePlace → View O E
   view_at v p = record v { place = p }
@@ -85,14 +111,7 @@ module _ {O E : Type 0} where
   abbrev pub next_head : View O E → View O E
   next_head v = record {
     place = idle_place;
-    right = record {
-      is_spent = false;
-      may_draw = true;
-      family = v.right.heads;
-      actor = HOST;
-      heads = v.right.heads + 1;
-      absent_actors = [];
-    };
+    right = drawing_right v.right.heads HOST (v.right.heads + 1);
     page = page_of v [];
   }
 
@@ -105,14 +124,7 @@ module _ {O E : Type 0} where
   abbrev pub actor_view : (E → Who) → ℕ → View O E → View O E
   actor_view whose a v = record {
     place = idle_place;
-    right = record {
-      is_spent = false;
-      may_draw = true;
-      family = v.right.family;
-      actor = a;
-      heads = 0;
-      absent_actors = [];
-    };
+    right = drawing_right v.right.family a 0;
     page = page_of v (entries_of whose (record { family = v.right.family; actor = a }) v.page.seen);
   }
 
@@ -127,7 +139,11 @@ module _ {O E : Type 0} where
 
   -- the view of a head after it has taken an actor back
   abbrev pub view_after_joining : View O E → View O E → View O E
-  view_after_joining v w = record (view_after_meeting v w) { right = record v.right { absent_actors = ids_without w.right.actor v.right.absent_actors } }
+  view_after_joining v w = record (view_after_meeting v w) {
+    right = record v.right {
+      absent_actors = ids_without w.right.actor v.right.absent_actors;
+    };
+  }
 
   -- what is kept of a head that is joined away
   abbrev pub joined_head_of : View O E → JoinedHead E
@@ -145,47 +161,15 @@ module _ {O E : Type 0} where
 
   -- what is left of a seat that was joined into another
   abbrev pub spent_view : View O E
-  spent_view = record {
-    place = idle_place;
-    right = record {
-      is_spent = true;
-      may_draw = false;
-      family = 0;
-      actor = 0;
-      heads = 0;
-      absent_actors = [];
-    };
-    page = record {
-      opening = None;
-      seen = [];
-      earlier = [];
-      mine = [];
-      older_histories = [];
-      joined_heads = [];
-    };
-  }
+  spent_view = record { place = idle_place; right = spent_right; page = blank_page None }
 
   -- The view of the head of family n, which has seen nothing yet. It makes the next head where
   -- `heads` is n + 1, and none where `heads` is 0.
   abbrev pub fresh_head : O → ℕ → ℕ → View O E
   fresh_head o n heads = record {
     place = idle_place;
-    right = record {
-      is_spent = false;
-      may_draw = true;
-      family = n;
-      actor = HOST;
-      heads = heads;
-      absent_actors = [];
-    };
-    page = record {
-      opening = Some o;
-      seen = [];
-      earlier = [];
-      mine = [];
-      older_histories = [];
-      joined_heads = [];
-    };
+    right = drawing_right n HOST heads;
+    page = blank_page (Some o);
   }
 
   -- the view of the first head

@@ -1,6 +1,5 @@
 //! How a book begins.
 ghost use Rattle.std.specs.Prelude.{◌≡◌, ℕ, ◌-◌, ◌<◌, ◌≤◌, [], ◌∷◌, length, IfOk, IfErr, slice_index_or, vec_capacity};
-ghost use Rattle.ce_lock.specs.Meanings.{meanings};
 ghost use Rattle.ce_lock.specs.Telling.{first_view};
 ghost use Rattle.ce_lock.specs.Sitting.{IsNewHead};
 
@@ -27,8 +26,7 @@ impl<O: Kept> Book<O> {
             × (pair.0.families ≡ families)) }
         ensures count { IfOk result (λ pair. length pair.1.items ≡ families) }
         ensures heads { IfOk result (λ pair. (k : ℕ) (d : _) → k < families
-            → IsNewHead (meanings O.fixed O.history O.lawful O.whose O.alone_entry)
-            pair.0 k (slice_index_or pair.1.items k d)) }
+            → IsNewHead pair.0 k (slice_index_or pair.1.items k d)) }
         ensures refused { IfErr result (λ refusal. refusal.0 ≡ object) }
     {
         let Ok(heads) = Vec::with_capacity(alloc, families as usize) else {
@@ -74,8 +72,7 @@ impl<O: Kept> Book<O> {
         requires room { (heads.items ≡ []) × (families ≤ vec_capacity heads) }
         ensures count { length result.items ≡ families }
         ensures heads { (k : ℕ) (d : _) → k < families
-            → IsNewHead (meanings O.fixed O.history O.lawful O.whose O.alone_entry)
-            self.now k (slice_index_or result.items k d) }
+            → IsNewHead self.now k (slice_index_or result.items k d) }
     {
         let mut maker = first;
         for family in 0..families - 1 {

@@ -1,4 +1,4 @@
-//! What each kind of step tells, and how views are cut in two and joined.
+//! What each kind of access tells, and how views are cut in two and joined.
 ghost use Rattle.std.specs.Prelude.{ℕ};
 ghost use Rattle.ce_lock.specs.Meanings.{meanings};
 ghost use Rattle.ce_lock.specs.Telling.{HasDrawn, HasLookedAtTicket, HasTakenObject, HasCommitted, HasGivenObject, HasLeftTurn, IsSettled, view_copy, view_after_making, next_head, view_with_out, actor_view, view_after_meeting, view_after_joining, view_after_closing, spent_view};

@@ -1,4 +1,4 @@
-//! The kinds of atomic step, one function each.
+//! The kinds of atomic access, one function each.
 ghost use Rattle.std.specs.Prelude.{◌≡◌, ◌≢◌, ℕ, ◌+◌, ◌<◌, [], ◌∷◌, ◌++◌, length, Some, IsTrue, IsFalse};
 ghost use Rattle.std.specs.List.{Contains};
 ghost use Rattle.atomic_table.specs.Table.{Joins};

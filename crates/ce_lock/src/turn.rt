@@ -37,8 +37,8 @@ impl<'a, O: Kept> ChairAtBoard<'a, O> {
         let board = self.board;
         let mut is_woken = false;
         for _ in rt.forever() {
-            let serving = self.look();
-            if serving == ticket {
+            let served_ticket = self.look();
+            if served_ticket == ticket {
                 return;
             }
             if is_woken {
@@ -47,7 +47,7 @@ impl<'a, O: Kept> ChairAtBoard<'a, O> {
             board
                 .table
                 .shared
-                .park(rt, SERVING, (serving & 0xFFFF_FFFF) as u32);
+                .park(rt, SERVING, (served_ticket & 0xFFFF_FFFF) as u32);
             is_woken = true;
         }
         unreachable!()

@@ -23,7 +23,7 @@ use Rattle.ce_model.specs.Literals.{entry_of}
 use Rattle.ce_machine.specs.declared.order.Order.{Order}
 use Rattle.ce_machine.specs.declared.order.Order.TheVariants.{Spawn, Kill}
 use Rattle.ce_machine.specs.Orders.{call_of_order, what_of_order, with_order}
-use Rattle.ce_machine.proofs.Changes.{next}
+use Rattle.ce_machine.proofs.Changes.{next_state}
 use Rattle.ce_machine.proofs.Called.{HasPlacesOf, placed-now, call-places, of-host, of-node}
 use Rattle.ce_machine.proofs.Answered.{place_of, answer_to, take-answer, order-answer, note-answer, arm-answer, look-answer, mail-answer}
 use Rattle.ce_machine.proofs.CallEffects.{with_call_mark, note-record, order-here, order-away, take-own, take-other, arm-record, look-record, take_mail-record, note-cube, arm-cube, look-cube, order-cube, take-cube, no_mail-cube, mail-cube, call-each, call-cube}
@@ -37,7 +37,7 @@ module _ (parts : MachineParts) (machine : IsMachine parts) (h : List Entry) (la
     (actor : ℕ) where
   -- the state once the actor has made this entry, and what was kept before
   abbrev now : What → MachineState
-  now what = next h (entry_of user actor what)
+  now what = next_state h (entry_of user actor what)
 
   abbrev was : ℕ → NodeRecord
   was node = (after h).node_record node
@@ -65,23 +65,23 @@ module _ (parts : MachineParts) (machine : IsMachine parts) (h : List Entry) (la
   -- ---- notes
 
   pub noted-each : (pid word : ℕ) → IsCallOf parts h actor (note_call pid word) cube → (node : ℕ) → (node == HOST) ≡ false
-      → (next h (entry_of user actor (Note pid word))).node_record node ≡ with_call_mark actor node ((after h).node_record node)
+      → (next_state h (entry_of user actor (Note pid word))).node_record node ≡ with_call_mark actor node ((after h).node_record node)
   noted-each pid word fits node no_host =
       each (note_call pid word) fits (Note pid word) (note-answer (after h) cube actor pid word) node no_host ∙ note-record cube.grant.sub user actor node (was node) pid word
 
-  pub noted-cube : (pid word : ℕ) → IsCallOf parts h actor (note_call pid word) cube → cube_held_by (next h (entry_of user actor (Note pid word))) user ≡ Some cube
+  pub noted-cube : (pid word : ℕ) → IsCallOf parts h actor (note_call pid word) cube → cube_held_by (next_state h (entry_of user actor (Note pid word))) user ≡ Some cube
   noted-cube pid word fits = whole (note_call pid word) fits (Note pid word) (note-answer (after h) cube actor pid word) ∙ ap Some (note-cube user actor cube pid word)
 
   -- ---- what a host asks
 
   pub armed-each : (count : ℕ) → IsCallOf parts h actor (arm_call count) cube → (node : ℕ) → (node == HOST) ≡ false
-      → (next h (entry_of user actor (Arm count))).node_record node ≡ (after h).node_record node
+      → (next_state h (entry_of user actor (Arm count))).node_record node ≡ (after h).node_record node
   armed-each count fits node no_host =
       each (arm_call count) fits (Arm count) (arm-answer (after h) cube actor count) node no_host
       ∙ arm-record cube.grant.sub user actor node (was node) (by_host (arm_call count) fits (of-host parts machine h lawful user cube holds actor (arm_call count) fits (λ none. none)) node no_host) count
 
   pub armed-cube : (count : ℕ) → IsCallOf parts h actor (arm_call count) cube
-      → cube_held_by (next h (entry_of user actor (Arm count))) user ≡ Some (record cube { allowed_dispatches = count; made_dispatches = 0 })
+      → cube_held_by (next_state h (entry_of user actor (Arm count))) user ≡ Some (record cube { allowed_dispatches = count; made_dispatches = 0 })
   armed-cube count fits = whole (arm_call count) fits (Arm count) (arm-answer (after h) cube actor count) ∙ ap Some (arm-cube user actor cube count)
 
   module _ (fits : IsCallOf parts h actor look_call cube) where
@@ -92,12 +92,12 @@ module _ (parts : MachineParts) (machine : IsMachine parts) (h : List Entry) (la
     pub looked : answer_to (after h) cube actor look_call ≡ Look found
     looked = look-answer (after h) cube actor parts.dim (placed look_call fits)
 
-    pub looked-each : (node : ℕ) → (node == HOST) ≡ false → (next h (entry_of user actor (Look found))).node_record node ≡ (after h).node_record node
+    pub looked-each : (node : ℕ) → (node == HOST) ≡ false → (next_state h (entry_of user actor (Look found))).node_record node ≡ (after h).node_record node
     looked-each node no_host =
         each look_call fits (Look found) looked node no_host
         ∙ look-record cube.grant.sub user actor node (was node) (by_host look_call fits (of-host parts machine h lawful user cube holds actor look_call fits (λ none. none)) node no_host) found
 
-    pub looked-cube : cube_held_by (next h (entry_of user actor (Look found))) user ≡ Some cube
+    pub looked-cube : cube_held_by (next_state h (entry_of user actor (Look found))) user ≡ Some cube
     looked-cube = whole look_call fits (Look found) looked ∙ ap Some (look-cube user actor cube found)
 
   module _ (fits : IsCallOf parts h actor mail_call cube) where
@@ -115,10 +115,10 @@ module _ (parts : MachineParts) (machine : IsMachine parts) (h : List Entry) (la
       pub no_mail : answer_to (after h) cube actor mail_call ≡ HostTake None
       no_mail = mail-answer (after h) cube actor is_host ∙ ap (λ items. HostTake (first_number items)) none
 
-      pub no_mail-each : (node : ℕ) → (node == HOST) ≡ false → (next h (entry_of user actor (HostTake None))).node_record node ≡ (after h).node_record node
+      pub no_mail-each : (node : ℕ) → (node == HOST) ≡ false → (next_state h (entry_of user actor (HostTake None))).node_record node ≡ (after h).node_record node
       no_mail-each node no_host = mail-each None no_mail node no_host
 
-      pub no_mail-held : cube_held_by (next h (entry_of user actor (HostTake None))) user ≡ Some cube
+      pub no_mail-held : cube_held_by (next_state h (entry_of user actor (HostTake None))) user ≡ Some cube
       no_mail-held = whole mail_call fits (HostTake None) no_mail ∙ ap Some (no_mail-cube user actor cube)
 
     -- the first that waits is taken
@@ -127,10 +127,10 @@ module _ (parts : MachineParts) (machine : IsMachine parts) (h : List Entry) (la
       mail_taken = mail-answer (after h) cube actor is_host ∙ ap (λ items. HostTake (first_number items)) first
 
       pub mail_taken-each : (node : ℕ) → (node == HOST) ≡ false
-          → (next h (entry_of user actor (HostTake (Some parcel.number)))).node_record node ≡ (after h).node_record node
+          → (next_state h (entry_of user actor (HostTake (Some parcel.number)))).node_record node ≡ (after h).node_record node
       mail_taken-each node no_host = mail-each (Some parcel.number) mail_taken node no_host
 
-      pub mail_taken-cube : cube_held_by (next h (entry_of user actor (HostTake (Some parcel.number)))) user ≡ Some (record cube { mail = rest })
+      pub mail_taken-cube : cube_held_by (next_state h (entry_of user actor (HostTake (Some parcel.number)))) user ≡ Some (record cube { mail = rest })
       mail_taken-cube = whole mail_call fits (HostTake (Some parcel.number)) mail_taken ∙ ap Some (mail-cube user actor cube parcel rest is_host first)
 
   -- ---- orders: what is kept for the node of the process, and for each other
@@ -152,20 +152,20 @@ module _ (parts : MachineParts) (machine : IsMachine parts) (h : List Entry) (la
     ordered-as = order-answer (after h) cube actor parts.dim (placed (call_of_order order pid to) fits) order pid to order-place.0
 
     pub ordered-here : let node = node_of cube.grant.sub to.node in
-        (next h (entry_of user actor (what_of_order order pid (place_of cube to) ((after h).node_record node)))).node_record node
+        (next_state h (entry_of user actor (what_of_order order pid (place_of cube to) ((after h).node_record node)))).node_record node
         ≡ with_call_mark actor node (with_order order to.pid ((after h).node_record node))
     ordered-here =
         each (call_of_order order pid to) fits order_made ordered-as order_at at_no_host
         ∙ order-here cube.grant.sub user actor order_at (was order_at) order pid (place_of cube to) (eq-eqb order_at order_at refl)
 
     pub ordered-away : (node : ℕ) → (node == HOST) ≡ false → (node_of cube.grant.sub to.node == node) ≡ false
-        → (next h (entry_of user actor (what_of_order order pid (place_of cube to) ((after h).node_record (node_of cube.grant.sub to.node))))).node_record node
+        → (next_state h (entry_of user actor (what_of_order order pid (place_of cube to) ((after h).node_record (node_of cube.grant.sub to.node))))).node_record node
         ≡ with_call_mark actor node ((after h).node_record node)
     ordered-away node no_host away =
         each (call_of_order order pid to) fits order_made ordered-as node no_host
         ∙ order-away cube.grant.sub user actor node (was node) order pid (place_of cube to) (was order_at) away
 
-    pub ordered-cube : cube_held_by (next h (entry_of user actor (what_of_order order pid (place_of cube to) ((after h).node_record (node_of cube.grant.sub to.node))))) user ≡ Some cube
+    pub ordered-cube : cube_held_by (next_state h (entry_of user actor (what_of_order order pid (place_of cube to) ((after h).node_record (node_of cube.grant.sub to.node))))) user ≡ Some cube
     ordered-cube =
         whole (call_of_order order pid to) fits order_made ordered-as
         ∙ ap Some (order-cube user actor cube order pid (place_of cube to) (was order_at) at_no_host)
@@ -187,17 +187,17 @@ module _ (parts : MachineParts) (machine : IsMachine parts) (h : List Entry) (la
       pub took-as : answer_to (after h) cube actor (take_call asking dead poller) ≡ Take asking dead poller given
       took-as = take-answer (after h) cube actor asking dead poller no_host ∙ ap (Take asking dead poller) e
 
-      pub took-own : let node_record = (after h).node_record actor in (next h (entry_of user actor (Take asking dead poller given))).node_record actor
+      pub took-own : let node_record = (after h).node_record actor in (next_state h (entry_of user actor (Take asking dead poller given))).node_record actor
           ≡ record node_record { waiting_items = without_taken_item (taken_result (Take asking dead poller given)) node_record.waiting_items; mark = record { is_idle = is_idle given; asking = asking; dead = dead } }
       took-own =
           each call fits (Take asking dead poller given) took-as actor no_host
           ∙ take-own cube.grant.sub user actor actor (was actor) asking dead poller given (eq-eqb actor actor refl)
 
       pub took-other : (node : ℕ) → (node == HOST) ≡ false → (actor == node) ≡ false
-          → (next h (entry_of user actor (Take asking dead poller given))).node_record node ≡ (after h).node_record node
+          → (next_state h (entry_of user actor (Take asking dead poller given))).node_record node ≡ (after h).node_record node
       took-other node apart other =
           each call fits (Take asking dead poller given) took-as node apart ∙ take-other cube.grant.sub user actor node (was node) other asking dead poller given
 
-      pub took-cube : cube_held_by (next h (entry_of user actor (Take asking dead poller given))) user
+      pub took-cube : cube_held_by (next_state h (entry_of user actor (Take asking dead poller given))) user
           ≡ Some (record cube { made_dispatches = if is_work given then cube.made_dispatches + 1 else cube.made_dispatches })
       took-cube = whole call fits (Take asking dead poller given) took-as ∙ ap Some (take-cube user actor cube asking dead poller given no_host)

@@ -34,7 +34,7 @@ use Rattle.ce_machine.specs.declared.order.Order.{Order}
 use Rattle.ce_machine.specs.declared.order.Order.TheVariants as orders
 use Rattle.ce_machine.specs.Desks.{with_start, with_kill}
 use Rattle.ce_machine.specs.Orders.{what_of_order, with_order}
-use Rattle.ce_machine.proofs.Changes.{next}
+use Rattle.ce_machine.proofs.Changes.{next_state}
 use Rattle.ce_machine.proofs.Called.{IsTarget, target-number, HasPlacesOf, placed-now, call-places}
 use Rattle.ce_machine.proofs.Answered.{send-answer}
 use Rattle.ce_machine.proofs.QueueRoom.{few-parcels, queue_room, node-limits, cube-limits}
@@ -276,7 +276,7 @@ module _ (parts : MachineParts) (machine : IsMachine parts) (h : List Entry) (la
     -- a call that fits changes what is kept for each node of the machine as it does for one of the
     -- cube
     pub call-each : (node : ℕ) → (node == HOST) ≡ false
-        → (next h (entry_of user actor what)).node_record node ≡ record_after_entry cube.grant.sub (entry_of user actor what) node ((after h).node_record node)
+        → (next_state h (entry_of user actor what)).node_record node ≡ record_after_entry cube.grant.sub (entry_of user actor what) node ((after h).node_record node)
     call-each node no_host =
         elim (cases_Bool (is_inside cube.grant.sub node)) [
           | inl inside ↦ call-inside h entry (with_places_outward cube.grant call) is_called cube node holds inside
@@ -302,7 +302,7 @@ module _ (parts : MachineParts) (machine : IsMachine parts) (h : List Entry) (la
             ne_eqb _ node (λ e. both_ways _ no_host (eq-eqb node HOST (sym e ∙ ap (number_outward cube.grant.sub) host)))
 
     -- and the cube itself
-    pub call-cube : cube_held_by (next h (entry_of user actor what)) user ≡ Some (cube_after_entry (entry_of user actor what) cube)
+    pub call-cube : cube_held_by (next_state h (entry_of user actor what)) user ≡ Some (cube_after_entry (entry_of user actor what) cube)
     call-cube = call-own h entry (with_places_outward cube.grant call) is_called cube holds
 
 -- ---- room for a message
@@ -316,13 +316,13 @@ module _ (parts : MachineParts) (machine : IsMachine parts) (h : List Entry) (la
   arrived node to = mails_at cube.grant.sub (record { node = actor; pid = pid }) cube.parcel_count bytes node to
 
   -- what a message that fits brings to a node of the machine, and to the host
-  pub sent-each : (node : ℕ) → (node == HOST) ≡ false → (next h (entry_of user actor sending)).node_record node
+  pub sent-each : (node : ℕ) → (node == HOST) ≡ false → (next_state h (entry_of user actor sending)).node_record node
       ≡ record (with_call_mark actor node ((after h).node_record node)) { waiting_items = ((after h).node_record node).waiting_items ++ arrived node to }
   sent-each node no_host =
       call-each parts machine h lawful user cube holds actor (send_call pid to bytes) fits sending (send-answer (after h) cube actor pid to bytes) node no_host
       ∙ send-record cube.grant.sub user actor node ((after h).node_record node) pid cube.parcel_count to bytes
 
-  pub sent-cube : cube_held_by (next h (entry_of user actor sending)) user
+  pub sent-cube : cube_held_by (next_state h (entry_of user actor sending)) user
       ≡ Some (record cube { parcel_count = cube.parcel_count + length to; mail = cube.mail ++ arrived HOST to })
   sent-cube =
       call-cube parts machine h lawful user cube holds actor (send_call pid to bytes) fits sending (send-answer (after h) cube actor pid to bytes)

@@ -57,7 +57,7 @@ host-places d (spawn_call pid image to) is = is
 host-places d (kill_call pid to) is = is
 host-places d other is = tt
 
-node-places : (cube : Cube) (node : Node) (call : Call) → node.dim ≡ cube.dim → words.IsCallOf node call → HasPlacesOf cube.dim call
+node-places : (cube : Cube) (node : Node) (call : Call) → node.dim ≡ cube.dim → words.IsCallOfNode node call → HasPlacesOf cube.dim call
 node-places cube node (send_call pid to bytes) same is =
     all-weaker (λ (target : Place × BlockId). is_target node target.0 ≡ true) (λ target. IsTarget cube.dim target.0) to (λ target place. target_of cube node target.0 same place) is
 node-places cube node (spawn_call pid image to) same is = subst (λ d. is_place d to ≡ true) same is.1

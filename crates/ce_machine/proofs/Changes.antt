@@ -17,33 +17,33 @@ pub same_cube : (x y : HeldCube) → Some x ≡ Some y → x ≡ y
 same_cube x y e = cc
 
 -- the grant that an entry makes
-abbrev pub grant_to : ℕ → ℕ → Subcube → CubeGrant
-grant_to user dim sub = record { user = user; dim = dim; sub = sub }
+abbrev pub user_grant : ℕ → ℕ → Subcube → CubeGrant
+user_grant user dim sub = record { user = user; dim = dim; sub = sub }
 
 -- the state behind a history and one entry more
-abbrev pub next : List Entry → Entry → MachineState
-next h entry = after (h ++ entry ∷ [])
+abbrev pub next_state : List Entry → Entry → MachineState
+next_state h entry = after (h ++ entry ∷ [])
 
 -- what a lawful entry is, and what it makes of the state
 pub data Change (parts : MachineParts) (h : List Entry) (entry : Entry) : Type 0 where
   -- a peek, or a getcube for which none was free
-  nothing : next h entry ≡ after h → Change parts h entry
+  nothing : next_state h entry ≡ after h → Change parts h entry
   -- a getcube that got a cube
   grants : (dim : ℕ) (sub : Subcube) → cube_held_by (after h) entry.user ≡ None → first_free_subcube (is_free (after h)) parts.dim dim ≡ Some sub
-      → next h entry ≡ with_grant (grant_to entry.user dim sub) (after h) → Change parts h entry
-  drains : (cube : HeldCube) → cube_held_by (after h) entry.user ≡ Some cube → next h entry ≡ with_drained_cube entry.user (after h) → Change parts h entry
-  frees : (cube : HeldCube) → cube_held_by (after h) entry.user ≡ Some cube → cube.is_drained ≡ true → next h entry ≡ without_cube entry.user (after h) → Change parts h entry
+      → next_state h entry ≡ with_grant (user_grant entry.user dim sub) (after h) → Change parts h entry
+  drains : (cube : HeldCube) → cube_held_by (after h) entry.user ≡ Some cube → next_state h entry ≡ with_drained_cube entry.user (after h) → Change parts h entry
+  frees : (cube : HeldCube) → cube_held_by (after h) entry.user ≡ Some cube → cube.is_drained ≡ true → next_state h entry ≡ without_cube entry.user (after h) → Change parts h entry
   -- a call of a cube
   calls : (call : Call) (cube : HeldCube) → cube_held_by (after h) entry.user ≡ Some cube → IsCallOf parts h entry.actor call cube
       → answer (nodes_of cube.grant) (cube_standing (after h) cube) entry.actor (with_places_outward cube.grant call) ≡ entry.what
-      → next h entry ≡ with_cube entry.user (cube_after_entry entry) (λ cube. record_after_entry cube.grant.sub entry) (after h) → Change parts h entry
+      → next_state h entry ≡ with_cube entry.user (cube_after_entry entry) (λ cube. record_after_entry cube.grant.sub entry) (after h) → Change parts h entry
 
 some_what : (x y : What) → Some x ≡ Some y → x ≡ y
 some_what x y e = ap (λ o. elim o [ None ↦ x | Some z ↦ z ]) e
 
 module _ (parts : MachineParts) (h : List Entry) (entry : Entry) where
   -- an entry changes the state as its kind does
-  by_what : (what : What) → Some what ≡ Some entry.what → next h entry ≡ state_after_entry (after h) (entry_of entry.user entry.actor what)
+  by_what : (what : What) → Some what ≡ Some entry.what → next_state h entry ≡ state_after_entry (after h) (entry_of entry.user entry.actor what)
   by_what what e = after-more h entry ∙ ap (λ what. state_after_entry (after h) (entry_of entry.user entry.actor what)) (sym (some_what what entry.what e))
 
   by_found : (dim : ℕ) (found : Option Subcube) → first_free_subcube (is_free (after h)) parts.dim dim ≡ found → cube_held_by (after h) entry.user ≡ None

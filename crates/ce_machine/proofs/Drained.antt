@@ -14,7 +14,7 @@ use Rattle.ce_solo.proofs.Items.{among-append}
 use Rattle.ce_solo.proofs.Projection.Held.{held-own, record-own, granted-own, left-own}
 use Rattle.ce_solo.proofs.Projection.Invariant.{IsProjected, IsNextState}
 use Rattle.ce_solo.proofs.Projection.Law.{projected, lawful-entry}
-use Rattle.ce_machine.proofs.Changes.{same_cube, next, grant_to, Change, nothing, grants, drains, frees, calls, change-of}
+use Rattle.ce_machine.proofs.Changes.{same_cube, next_state, user_grant, Change, nothing, grants, drains, frees, calls, change-of}
 
 -- ---- nothing waits
 
@@ -31,21 +31,21 @@ module _ (parts : MachineParts) (machine : IsMachine parts) (h : List Entry) (en
   abbrev before : IsProjected parts (after h) h
   before = projected parts h machine empty.lawful
 
-  abbrev step : IsNextState parts (after h) h entry (next h entry)
+  abbrev step : IsNextState parts (after h) h entry (next_state h entry)
   step = lawful-entry parts machine h before entry is
 
-  own-empty : Change parts h entry → (cube : HeldCube) → cube_held_by (next h entry) entry.user ≡ Some cube → cube.is_drained ≡ true → IsEmpty (next h entry) cube
+  own-empty : Change parts h entry → (cube : HeldCube) → cube_held_by (next_state h entry) entry.user ≡ Some cube → cube.is_drained ≡ true → IsEmpty (next_state h entry) cube
   own-empty (nothing e) cube held drained =
       subst (λ state. IsEmpty state cube) (sym e) (empty.cubes entry.user cube (ap (λ state. cube_held_by state entry.user) (sym e) ∙ held) drained)
   own-empty (grants dim sub none free e) cube held drained =
-      let same = same_cube _ cube (sym (granted-own (grant_to entry.user dim sub) (after h) none) ∙ ap (λ state. cube_held_by state entry.user) (sym e) ∙ held) in
+      let same = same_cube _ cube (sym (granted-own (user_grant entry.user dim sub) (after h) none) ∙ ap (λ state. cube_held_by state entry.user) (sym e) ∙ held) in
       absurd (both_ways _ (ap (λ (c : HeldCube). c.is_drained) (sym same)) drained)
   own-empty (drains was holds e) cube held drained =
       let change : HeldCube → HeldCube = λ cube. record cube { is_drained = true; mail = [] } in
       let change_record : HeldCube → ℕ → NodeRecord → NodeRecord = λ cube node node_record. record node_record { waiting_items = [] } in
       let now = held-own entry.user change (λ cube. refl) change_record (after h) was holds in
       let same = same_cube (change was) cube (sym now ∙ ap (λ state. cube_held_by state entry.user) (sym e) ∙ held) in
-      subst (IsEmpty (next h entry)) same (record {
+      subst (IsEmpty (next_state h entry)) same (record {
         mail = refl;
         nodes = λ node inside. ap (λ (state : MachineState). (state.node_record node).waiting_items) e
             ∙ ap (λ (node_record : NodeRecord). node_record.waiting_items) (record-own change_record node ((after h).node_record node) (cube_held_by (after h) entry.user) was holds inside);
@@ -57,7 +57,7 @@ module _ (parts : MachineParts) (machine : IsMachine parts) (h : List Entry) (en
       let same = same_cube (cube_after_entry entry was) cube (sym now ∙ ap (λ state. cube_held_by state entry.user) (sym e) ∙ held) in
       absurd (both_ways _ (ap (λ (c : HeldCube). c.is_drained) (sym same) ∙ fits.not_drained) drained)
 
-  other-empty : (user : ℕ) (cube : HeldCube) → (entry.user == user) ≡ false → cube_held_by (next h entry) user ≡ Some cube → cube.is_drained ≡ true → IsEmpty (next h entry) cube
+  other-empty : (user : ℕ) (cube : HeldCube) → (entry.user == user) ≡ false → cube_held_by (next_state h entry) user ≡ Some cube → cube.is_drained ≡ true → IsEmpty (next_state h entry) cube
   other-empty user cube differ held drained =
       let held_was = sym (step.others user differ) ∙ held in
       let was = empty.cubes user cube held_was drained in
@@ -77,7 +77,7 @@ module _ (parts : MachineParts) (machine : IsMachine parts) (h : List Entry) (en
     lawful = each-more (IsLawfulEntry parts) h entry empty.lawful is;
     cubes = λ user cube held drained.
         elim (cases_Bool (entry.user == user)) [
-          | inl own ↦ own-empty (change-of parts h entry is) cube (ap (cube_held_by (next h entry)) (eqb-true _ _ own) ∙ held) drained
+          | inl own ↦ own-empty (change-of parts h entry is) cube (ap (cube_held_by (next_state h entry)) (eqb-true _ _ own) ∙ held) drained
           | inr differ ↦ other-empty user cube differ held drained
         ];
   }

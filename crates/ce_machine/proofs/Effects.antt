@@ -13,8 +13,8 @@ use Rattle.ce_solo.proofs.Projection.Held.{held-own, held-other, record-own, rec
 use Rattle.ce_model.specs.Literals.{entry_of}
 use Rattle.ce_solo.proofs.Projection.Kinds.{drained_cube, drained_record}
 use Rattle.ce_solo.proofs.Projection.Law.{after-more}
-pub use Rattle.ce_machine.specs.Keeping.{number_and_grant, grants-kept, grant-found, grants-stay}
-use Rattle.ce_machine.proofs.Changes.{grant_to, next}
+pub use Rattle.ce_machine.specs.Keeping.{grants-kept, grant-found, grants-stay}
+use Rattle.ce_machine.proofs.Changes.{user_grant, next_state}
 
 -- ---- the grants that are held
 
@@ -27,29 +27,29 @@ module _ (h : List Entry) (entry : Entry) (call : Call) (called : recorded_call 
   abbrev change_record : HeldCube → ℕ → NodeRecord → NodeRecord
   change_record cube = record_after_entry cube.grant.sub entry
 
-  pub call-state : next h entry ≡ with_cube entry.user change change_record (after h)
+  pub call-state : next_state h entry ≡ with_cube entry.user change change_record (after h)
   call-state = after-more h entry ∙ ap (λ call. state_after_call call entry (after h)) called
 
-  pub call-count : (next h entry).grant_count ≡ (after h).grant_count
+  pub call-count : (next_state h entry).grant_count ≡ (after h).grant_count
   call-count = ap (λ (s : MachineState). s.grant_count) call-state
 
-  pub call-grants : held_grants (next h entry) ≡ held_grants (after h)
+  pub call-grants : held_grants (next_state h entry) ≡ held_grants (after h)
   call-grants = ap held_grants call-state ∙ grants-kept (is_held_by entry.user) change (after h).cubes (λ cube. refl)
 
-  pub call-own : (cube : HeldCube) → cube_held_by (after h) entry.user ≡ Some cube → cube_held_by (next h entry) entry.user ≡ Some (cube_after_entry entry cube)
+  pub call-own : (cube : HeldCube) → cube_held_by (after h) entry.user ≡ Some cube → cube_held_by (next_state h entry) entry.user ≡ Some (cube_after_entry entry cube)
   call-own cube holds = ap (λ s. cube_held_by s entry.user) call-state ∙ held-own entry.user change (λ cube. refl) change_record (after h) cube holds
 
-  pub call-other : (user : ℕ) → (entry.user == user) ≡ false → cube_held_by (next h entry) user ≡ cube_held_by (after h) user
+  pub call-other : (user : ℕ) → (entry.user == user) ≡ false → cube_held_by (next_state h entry) user ≡ cube_held_by (after h) user
   call-other user other = ap (λ s. cube_held_by s user) call-state ∙ held-other entry.user change (λ cube. refl) change_record (after h) user other
 
   pub call-inside : (cube : HeldCube) (node : ℕ) → cube_held_by (after h) entry.user ≡ Some cube → is_inside cube.grant.sub node ≡ true
-      → (next h entry).node_record node ≡ record_after_entry cube.grant.sub entry node ((after h).node_record node)
+      → (next_state h entry).node_record node ≡ record_after_entry cube.grant.sub entry node ((after h).node_record node)
   call-inside cube node holds inside =
       ap (λ (s : MachineState). s.node_record node) call-state
       ∙ record-own change_record node ((after h).node_record node) (cube_held_by (after h) entry.user) cube holds inside
 
   pub call-outside : (cube : HeldCube) (node : ℕ) → cube_held_by (after h) entry.user ≡ Some cube → is_inside cube.grant.sub node ≡ false
-      → (next h entry).node_record node ≡ (after h).node_record node
+      → (next_state h entry).node_record node ≡ (after h).node_record node
   call-outside cube node holds outside =
       ap (λ (s : MachineState). s.node_record node) call-state
       ∙ record-other change_record node ((after h).node_record node) (cube_held_by (after h) entry.user)
@@ -60,10 +60,10 @@ module _ (h : List Entry) (entry : Entry) (call : Call) (called : recorded_call 
 
 module _ (h : List Entry) (user actor : ℕ) where
   -- a peek, and a getcube for which none was free, change nothing
-  pub peek-state : next h (entry_of user actor Peek) ≡ after h
+  pub peek-state : next_state h (entry_of user actor Peek) ≡ after h
   peek-state = after-more h (entry_of user actor Peek)
 
-  pub none_free-state : (dim : ℕ) → next h (entry_of user actor (Getcube dim None)) ≡ after h
+  pub none_free-state : (dim : ℕ) → next_state h (entry_of user actor (Getcube dim None)) ≡ after h
   none_free-state dim = after-more h (entry_of user actor (Getcube dim None))
 
   -- a cube is granted
@@ -71,55 +71,55 @@ module _ (h : List Entry) (user actor : ℕ) where
     abbrev getcube : Entry
     getcube = entry_of user actor (Getcube dim (Some sub))
 
-    pub grant-state : next h getcube ≡ with_grant (grant_to user dim sub) (after h)
+    pub grant-state : next_state h getcube ≡ with_grant (user_grant user dim sub) (after h)
     grant-state = after-more h getcube
 
-    pub grant-own : cube_held_by (after h) user ≡ None → cube_held_by (next h getcube) user
-        ≡ Some (record { number = (after h).grant_count; grant = grant_to user dim sub; is_drained = false; allowed_dispatches = 0; made_dispatches = 0; parcel_count = 0; mail = [] })
-    grant-own none = ap (λ s. cube_held_by s user) grant-state ∙ granted-own (grant_to user dim sub) (after h) none
+    pub grant-own : cube_held_by (after h) user ≡ None → cube_held_by (next_state h getcube) user
+        ≡ Some (record { number = (after h).grant_count; grant = user_grant user dim sub; is_drained = false; allowed_dispatches = 0; made_dispatches = 0; parcel_count = 0; mail = [] })
+    grant-own none = ap (λ s. cube_held_by s user) grant-state ∙ granted-own (user_grant user dim sub) (after h) none
 
-    pub grant-other : (other : ℕ) → (user == other) ≡ false → cube_held_by (next h getcube) other ≡ cube_held_by (after h) other
-    grant-other other differ = ap (λ s. cube_held_by s other) grant-state ∙ granted-other (grant_to user dim sub) (after h) other differ
+    pub grant-other : (other : ℕ) → (user == other) ≡ false → cube_held_by (next_state h getcube) other ≡ cube_held_by (after h) other
+    grant-other other differ = ap (λ s. cube_held_by s other) grant-state ∙ granted-other (user_grant user dim sub) (after h) other differ
 
-    pub grant-records : (next h getcube).node_record ≡ (after h).node_record
+    pub grant-records : (next_state h getcube).node_record ≡ (after h).node_record
     grant-records = ap (λ (s : MachineState). s.node_record) grant-state
 
   -- a cube is drained
   abbrev draining : Entry
   draining = entry_of user actor Drain
 
-  pub drain-state : next h draining ≡ with_drained_cube user (after h)
+  pub drain-state : next_state h draining ≡ with_drained_cube user (after h)
   drain-state = after-more h draining
 
-  pub drain-count : (next h draining).grant_count ≡ (after h).grant_count
+  pub drain-count : (next_state h draining).grant_count ≡ (after h).grant_count
   drain-count = ap (λ (s : MachineState). s.grant_count) drain-state
 
-  pub drain-grants : held_grants (next h draining) ≡ held_grants (after h)
+  pub drain-grants : held_grants (next_state h draining) ≡ held_grants (after h)
   drain-grants = ap held_grants drain-state ∙ grants-kept (is_held_by user) drained_cube (after h).cubes (λ cube. refl)
 
-  pub drain-own : (cube : HeldCube) → cube_held_by (after h) user ≡ Some cube → cube_held_by (next h draining) user ≡ Some (record cube { is_drained = true; mail = [] })
+  pub drain-own : (cube : HeldCube) → cube_held_by (after h) user ≡ Some cube → cube_held_by (next_state h draining) user ≡ Some (record cube { is_drained = true; mail = [] })
   drain-own cube holds = ap (λ s. cube_held_by s user) drain-state ∙ held-own user drained_cube (λ cube. refl) drained_record (after h) cube holds
 
-  pub drain-other : (other : ℕ) → (user == other) ≡ false → cube_held_by (next h draining) other ≡ cube_held_by (after h) other
+  pub drain-other : (other : ℕ) → (user == other) ≡ false → cube_held_by (next_state h draining) other ≡ cube_held_by (after h) other
   drain-other other differ = ap (λ s. cube_held_by s other) drain-state ∙ held-other user drained_cube (λ cube. refl) drained_record (after h) other differ
 
   pub drain-record : (cube : HeldCube) (node : ℕ) → cube_held_by (after h) user ≡ Some cube
-      → (next h draining).node_record node ≡ (if is_inside cube.grant.sub node then record ((after h).node_record node) { waiting_items = [] } else (after h).node_record node)
+      → (next_state h draining).node_record node ≡ (if is_inside cube.grant.sub node then record ((after h).node_record node) { waiting_items = [] } else (after h).node_record node)
   drain-record cube node holds = ap (λ (s : MachineState). s.node_record node) drain-state ∙ rw holds refl
 
   -- a cube is given back
   abbrev freeing : Entry
   freeing = entry_of user actor Freecube
 
-  pub free-state : next h freeing ≡ without_cube user (after h)
+  pub free-state : next_state h freeing ≡ without_cube user (after h)
   free-state = after-more h freeing
 
-  pub free-own : cube_held_by (next h freeing) user ≡ None
+  pub free-own : cube_held_by (next_state h freeing) user ≡ None
   free-own = ap (λ s. cube_held_by s user) free-state ∙ left-own user (after h)
 
-  pub free-other : (other : ℕ) → (user == other) ≡ false → cube_held_by (next h freeing) other ≡ cube_held_by (after h) other
+  pub free-other : (other : ℕ) → (user == other) ≡ false → cube_held_by (next_state h freeing) other ≡ cube_held_by (after h) other
   free-other other differ = ap (λ s. cube_held_by s other) free-state ∙ left-other user other (after h) differ
 
   pub free-record : (cube : HeldCube) (node : ℕ) → cube_held_by (after h) user ≡ Some cube
-      → (next h freeing).node_record node ≡ (if is_inside cube.grant.sub node then blank_record else (after h).node_record node)
+      → (next_state h freeing).node_record node ≡ (if is_inside cube.grant.sub node then blank_record else (after h).node_record node)
   free-record cube node holds = ap (λ (s : MachineState). s.node_record node) free-state ∙ rw holds refl

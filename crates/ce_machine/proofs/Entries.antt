@@ -32,7 +32,7 @@ use Rattle.ce_machine.specs.Tables.{HostRecord, blank_host, cube_host, desk_at, 
 use Rattle.ce_machine.specs.Desks.{AreChanged, IsOnDesks}
 use Rattle.ce_machine.proofs.Holdings.{grant_held, held-same, placed-small, placed-wide, placed-node}
 use Rattle.ce_machine.specs.Answering.{HasAnswered}
-use Rattle.ce_machine.proofs.Changes.{next}
+use Rattle.ce_machine.proofs.Changes.{next_state}
 use Rattle.ce_machine.proofs.Effects.{call-count, call-grants, call-other}
 use Rattle.ce_machine.proofs.KeptLaws.{more_is_lawful}
 
@@ -188,12 +188,12 @@ module _ (m : SoundMachine) where
   -- an entry of a call of a cube
   pub tables-call : (user actor : ℕ) (what : What) (call : model.Call) → recorded_call what ≡ Some call → (desks' : List NodeRecord) (hosts' : List HostRecord) (cube' : HeldCube)
       (host' : HostRecord) → length desks' ≡ length desks
-      → ((node : ℕ) → node < 2 ^ parts.dim → (node == HOST) ≡ false → desk_at desks' node ≡ (next h (entry_of user actor what)).node_record node)
-      → IsSet hosts hosts' user host' → cube_held_by (next h (entry_of user actor what)) user ≡ Some cube' → host' ≡ cube_host (Some cube')
-      → AreTables parts (next h (entry_of user actor what)) table desks' hosts'
+      → ((node : ℕ) → node < 2 ^ parts.dim → (node == HOST) ≡ false → desk_at desks' node ≡ (next_state h (entry_of user actor what)).node_record node)
+      → IsSet hosts hosts' user host' → cube_held_by (next_state h (entry_of user actor what)) user ≡ Some cube' → host' ≡ cube_host (Some cube')
+      → AreTables parts (next_state h (entry_of user actor what)) table desks' hosts'
   tables-call user actor what call called desks' hosts' cube' host' count each is held host_is =
       let entry = entry_of user actor what in
-      tables-user (next h entry) table desks' hosts' user host' (same_count (next h entry) (call-count h entry call called) (call-grants h entry call called)) count each is
+      tables-user (next_state h entry) table desks' hosts' user host' (same_count (next_state h entry) (call-count h entry call called) (call-grants h entry call called)) count each is
       (host_is ∙ ap cube_host (sym held)) (λ other differ. call-other h entry call called other differ)
 
   -- the desks that stay show what the entry leaves, where it changes no node
@@ -219,7 +219,7 @@ module _ (m : SoundMachine) where
     more-lawful = more_is_lawful home clean parts h made who call sound.lawful fits answer refl
 
     module _ (h' : List Entry) (is : h' ≡ h ++ entry_of who.family who.actor what ∷ []) where
-      pub sound-more : (table' : GrantTable) (desks' : List NodeRecord) (hosts' : List HostRecord) → AreTables parts (next h (entry_of who.family who.actor what)) table' desks' hosts'
+      pub sound-more : (table' : GrantTable) (desks' : List NodeRecord) (hosts' : List HostRecord) → AreTables parts (next_state h (entry_of who.family who.actor what)) table' desks' hosts'
           → IsSoundMachine parts h' table' desks' hosts'
       sound-more table' desks' hosts' tables = record {
         machine = sound.machine;
@@ -250,7 +250,7 @@ module _ (m : SoundMachine) (who : Who) {N : Type 0} {home : N → ℕ} {clean :
   pub done-with : {h' : List Entry} {call : Call N} (reply : Reply N) (what : What) → IsFittingCall home clean parts h who call
       → what_of_request parts (after h) who.family who.actor (request_of call) ≡ Some what → IsReplyTo home clean parts (after h) who.family who.actor what reply
       → h' ≡ h ++ entry_of who.family who.actor what ∷ [] → {table' : GrantTable} {desks' : List NodeRecord} {hosts' : List HostRecord}
-      → AreTables parts (next h (entry_of who.family who.actor what)) table' desks' hosts' → HasMadeEntry home clean m h' table' desks' hosts' who call reply
+      → AreTables parts (next_state h (entry_of who.family who.actor what)) table' desks' hosts' → HasMadeEntry home clean m h' table' desks' hosts' who call reply
   done-with {h'} {call} reply what fits answer reply_is is {table'} {desks'} {hosts'} tables =
       let same : parts.dim ≡ table'.dim = sym (ap (λ (held : GrantTable). held.dim) tables.table_is) in
       record {

@@ -39,7 +39,7 @@ use Rattle.ce_machine.specs.Requests.{request_of, IsFittingCall}
 use Rattle.ce_machine.specs.Replies.{IsReplyTo, look_reply, IsMailReply, IsDrainReply}
 use Rattle.ce_machine.specs.Tables.{HostRecord, blank_host, cube_host, desk_at, host_at, grant_table, AreTables}
 use Rattle.ce_machine.specs.Desks.{AreChanged, change_at_nodes, without_items, IsOnDesks}
-use Rattle.ce_machine.proofs.Changes.{next}
+use Rattle.ce_machine.proofs.Changes.{next_state}
 use Rattle.ce_machine.proofs.Effects as effects
 use Rattle.ce_machine.proofs.Holdings.{grant_held, held-same, free-same, table-with-grant, table-without-user, table-stays, placed-node}
 use Rattle.ce_machine.proofs.Drained.{drained-empty, all-blocks, flat_map-same, list_all-same}
@@ -53,7 +53,7 @@ module _ (m : SoundMachine) (who : Who) where
   open who use {family as user, actor}
 
   abbrev now : What → MachineState
-  now what = next h (entry_of who.family who.actor what)
+  now what = next_state h (entry_of who.family who.actor what)
 
   -- the host's table that the code has read, of a user that holds this cube
   host-was : (host : HostRecord) (cube : HeldCube) → who.family < parts.users → host ≡ get_or hosts who.family host → cube_held_by (after h) who.family ≡ Some cube → host ≡ cube_host (Some cube)

@@ -16,8 +16,8 @@ use Rattle.ce_daemon.specs.Holding.{next_grant}
 use Rattle.ce_daemon.specs.Holding as daemon
 use Rattle.ce_daemon.specs.Peeks.{numbered_grant}
 use Rattle.ce_machine.specs.Tables.{grant_table}
-use Rattle.ce_machine.proofs.Changes.{grant_to}
-use Rattle.ce_machine.proofs.Effects.{number_and_grant}
+use Rattle.ce_machine.proofs.Changes.{user_grant}
+use Rattle.ce_machine.specs.Requests.{number_and_grant}
 
 -- the grants that are held, by number
 abbrev pub grants_in : MachineState → List Grant
@@ -45,10 +45,10 @@ free-same dim state = λ i node. not (by_cubes node state.cubes i)
 
 -- a cube is granted, and one is given back
 pub table-with-grant : (dim : ℕ) (state : MachineState) (user d : ℕ) (sub : Subcube)
-    → grant_table dim (with_grant (grant_to user d sub) state) ≡ daemon.table_with_grant (next_grant state.grant_count user d sub) (grant_table dim state)
+    → grant_table dim (with_grant (user_grant user d sub) state) ≡ daemon.table_with_grant (next_grant state.grant_count user d sub) (grant_table dim state)
 table-with-grant dim state user d sub = λ i. record { dim = dim; count = state.grant_count + 1; grants = grants i }
   where
-    grants : grants_in (with_grant (grant_to user d sub) state) ≡ grants_in state ++ next_grant state.grant_count user d sub ∷ []
+    grants : grants_in (with_grant (user_grant user d sub) state) ≡ grants_in state ++ next_grant state.grant_count user d sub ∷ []
     grants = ap (map numbered_grant) (map-append number_and_grant state.cubes _) ∙ map-append numbered_grant (held_grants state) _
 
 pub table-without-user : (dim : ℕ) (state : MachineState) (user : ℕ) → grant_table dim (without_cube user state) ≡ daemon.without_user user (grant_table dim state)

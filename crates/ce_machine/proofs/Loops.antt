@@ -15,17 +15,17 @@ use Rattle.ce_machine.specs.Tables.{desk_at}
 use Rattle.ce_machine.specs.Desks.{AreChanged, change_at_nodes}
 
 -- the nodes of a cube from its node r on
-abbrev pub rest_from : Subcube → ℕ → ℕ → List ℕ
-rest_from sub r end = map (node_of sub) (range_with_len r (end - r))
+abbrev pub nodes_from : Subcube → ℕ → ℕ → List ℕ
+nodes_from sub r end = map (node_of sub) (range_with_len r (end - r))
 
-pub rest-more : (sub : Subcube) (r end : ℕ) → r < end → rest_from sub r end ≡ node_of sub r ∷ rest_from sub (r + 1) end
+pub rest-more : (sub : Subcube) (r end : ℕ) → r < end → nodes_from sub r end ≡ node_of sub r ∷ nodes_from sub (r + 1) end
 rest-more sub r end below = let e : end - r ≡ suc (end - (r + 1)) = omega arith in rw e refl
 
-pub rest-none : (sub : Subcube) (r end : ℕ) → end ≤ r → rest_from sub r end ≡ []
+pub rest-none : (sub : Subcube) (r end : ℕ) → end ≤ r → nodes_from sub r end ≡ []
 rest-none sub r end above = let e : end - r ≡ 0 = omega arith in rw e refl
 
 -- all of them, with their number as the code has it
-pub rest-whole : (sub : Subcube) (end count : ℕ) → end ≡ count → rest_from sub 0 end ≡ map (node_of sub) (range_with_len 0 count)
+pub rest-whole : (sub : Subcube) (end count : ℕ) → end ≡ count → nodes_from sub 0 end ≡ map (node_of sub) (range_with_len 0 count)
 rest-whole sub end count is = let e : end - 0 ≡ count = omega (arith, is) in rw e refl
 
 -- the desk that code reads at a number, which it has computed
@@ -33,8 +33,8 @@ pub read-at : (desks : List NodeRecord) (n at : ℕ) (desk : NodeRecord) → n <
 read-at desks n at desk below same is = get_or_read desks n desk below (subst (λ n. desk ≡ get_or desks n desk) same is) blank_record
 
 -- the desks of the first nodes of a cube changed
-abbrev pub at_first : Subcube → ℕ → (NodeRecord → NodeRecord) → ℕ → NodeRecord → NodeRecord
-at_first sub r change node node_record = if is_inside sub node && nat_lt (extract node sub.mask) r then change node_record else node_record
+abbrev pub change_at_first_nodes : Subcube → ℕ → (NodeRecord → NodeRecord) → ℕ → NodeRecord → NodeRecord
+change_at_first_nodes sub r change node node_record = if is_inside sub node && nat_lt (extract node sub.mask) r then change node_record else node_record
 
 and_true : (b : Bool) → (b && true) ≡ b
 and_true true = refl
@@ -44,7 +44,7 @@ and_false : (b : Bool) → (b && false) ≡ false
 and_false true = refl
 and_false false = refl
 
-pub first-none : (sub : Subcube) (change : NodeRecord → NodeRecord) (desks : List NodeRecord) → AreChanged desks desks (at_first sub 0 change)
+pub first-none : (sub : Subcube) (change : NodeRecord → NodeRecord) (desks : List NodeRecord) → AreChanged desks desks (change_at_first_nodes sub 0 change)
 first-none sub change desks = record {
   count = refl;
   each = λ node below. sym (ap (λ (b : Bool). if b then change (desk_at desks node) else desk_at desks node)
@@ -52,7 +52,7 @@ first-none sub change desks = record {
 }
 
 pub first-all : (sub : Subcube) (d : ℕ) (change : NodeRecord → NodeRecord) (desks desks' : List NodeRecord) → IsSubcube greatest_dim d sub
-    → AreChanged desks desks' (at_first sub (2 ^ d) change) → AreChanged desks desks' (change_at_nodes sub change)
+    → AreChanged desks desks' (change_at_first_nodes sub (2 ^ d) change) → AreChanged desks desks' (change_at_nodes sub change)
 first-all sub d change desks desks' is all = record {
   count = all.count;
   each = λ node below. all.each node below ∙ ap (λ (b : Bool). if b then change (desk_at desks node) else desk_at desks node)
@@ -67,7 +67,7 @@ module _ (sub : Subcube) (d r : ℕ) (is : IsSubcube greatest_dim d sub) (below 
   inside = eq-eqb _ _ (ap (node_of sub) own)
 
   -- the next node hasn't changed
-  pub first-next : (change : NodeRecord → NodeRecord) (desks desks' : List NodeRecord) → node_of sub r < length desks → AreChanged desks desks' (at_first sub r change)
+  pub first-next : (change : NodeRecord → NodeRecord) (desks desks' : List NodeRecord) → node_of sub r < length desks → AreChanged desks desks' (change_at_first_nodes sub r change)
       → desk_at desks' (node_of sub r) ≡ desk_at desks (node_of sub r)
   first-next change desks desks' has first =
       let desk = desk_at desks (node_of sub r) in
@@ -75,7 +75,7 @@ module _ (sub : Subcube) (d r : ℕ) (is : IsSubcube greatest_dim d sub) (below 
       (ap (λ b. is_inside sub (node_of sub r) && b) (le-ltb (extract (node_of sub r) sub.mask) r (omega (arith, own))) ∙ and_false _)
 
   pub first-read : (change : NodeRecord → NodeRecord) (desks desks' : List NodeRecord) (at : ℕ) (desk : NodeRecord) → node_of sub r < length desks
-      → AreChanged desks desks' (at_first sub r change) → at ≡ node_of sub r → desk ≡ get_or desks' at desk → desk ≡ desk_at desks (node_of sub r)
+      → AreChanged desks desks' (change_at_first_nodes sub r change) → at ≡ node_of sub r → desk ≡ get_or desks' at desk → desk ≡ desk_at desks (node_of sub r)
   first-read change desks desks' at desk has first same is =
       read-at desks' (node_of sub r) at desk (omega (arith, has, first.count)) same is ∙ first-next change desks desks' has first
 
@@ -93,13 +93,13 @@ module _ (sub : Subcube) (d r : ℕ) (is : IsSubcube greatest_dim d sub) (below 
       ]
 
   -- then it changes too
-  pub first-more : (change : NodeRecord → NodeRecord) (desks desks' : List NodeRecord) (desk : NodeRecord) → node_of sub r < length desks → AreChanged desks desks' (at_first sub r change)
-      → desk ≡ change (desk_at desks (node_of sub r)) → AreChanged desks (set desks' (node_of sub r) desk) (at_first sub (r + 1) change)
+  pub first-more : (change : NodeRecord → NodeRecord) (desks desks' : List NodeRecord) (desk : NodeRecord) → node_of sub r < length desks → AreChanged desks desks' (change_at_first_nodes sub r change)
+      → desk ≡ change (desk_at desks (node_of sub r)) → AreChanged desks (set desks' (node_of sub r) desk) (change_at_first_nodes sub (r + 1) change)
   first-more change desks desks' desk has first desk_is = record {
     count = length-set desks' (node_of sub r) desk ∙ first.count;
     each = λ node node_below. elim (cases_eq node (node_of sub r)) [
       | inl same ↦
-          subst (λ n. desk_at (set desks' (node_of sub r) desk) n ≡ at_first sub (r + 1) change n (desk_at desks n)) (sym same)
+          subst (λ n. desk_at (set desks' (node_of sub r) desk) n ≡ change_at_first_nodes sub (r + 1) change n (desk_at desks n)) (sym same)
           (get_or-set_same desks' (node_of sub r) desk blank_record (omega (arith, first.count)) ∙ desk_is
           ∙ sym (ap (λ (b : Bool). if b then change (desk_at desks (node_of sub r)) else desk_at desks (node_of sub r))
           (ap (λ b. b && nat_lt (extract (node_of sub r) sub.mask) (r + 1)) inside ∙ lt-ltb _ _ (omega (arith, own)))))

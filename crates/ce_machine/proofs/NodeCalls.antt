@@ -11,10 +11,10 @@ use Rattle.ce_model.specs.declared.topology.BlockId.{BlockId}
 use Rattle.ce_model.specs.Limits.{block_room, greatest_targets, greatest_targets_lem, turn_calls}
 use Rattle.ce_model.specs.Blocks.{Block}
 use Rattle.ce_model.specs.Space.{Space, has_unused_window, block_named, result_map, and_then, places_at, memory_place}
-use Rattle.ce_model.specs.Process.{Process, argument, call_number, moved_process}
+use Rattle.ce_model.specs.Process.{Process, argument, call_number, moved_process, instruction_outcome}
 use Rattle.ce_model.specs.Node.{Turn, Node, process_at, is_place, Call, take_call, send_call, spawn_call, kill_call, note_call, arm_call, look_call, mail_call}
 use Rattle.ce_model.specs.Kernel.{CallOutcome, continuation, departure, turn_conclusion, return_outcome, leave_outcome, read_outcome, process_left_behind, with_store, map_outcome, xmalloc, free_outcome, xfree, xlength, is_target, place_named, send_outcome, xsend, copies_outcome, xmsend_block, xmsend, spawn, ckill, KernelCall, kernel_calls, counted_outcome, call_outcome, kernel}
-use Rattle.ce_model.specs.Saying.{Saying, saying_after_call, saying_after_instruction, instruction, turn_saying, saying_in, says}
+use Rattle.ce_model.specs.Saying.{Saying, saying_after_call, saying_after_instruction, turn_saying, saying_in, says}
 use Rattle.ce_model.specs.Cube.{Cube, Wish, send_wish, spawn_wish, kill_wish, arm_wish, look_wish, mail_wish, call_of_wish}
 
 -- ---- nodes
@@ -173,7 +173,7 @@ runs-good : (left : ℕ) (node : Node) (turn : Turn) → IsNodeActorCall (turn_s
 unfolding turn_saying
 runs-good zero node turn = tt
 runs-good (suc left) node turn =
-    instruction-good (turn_saying left) left node turn (process_at node turn.pid) (instruction (process_at node turn.pid)) (runs-good left)
+    instruction-good (turn_saying left) left node turn (process_at node turn.pid) (instruction_outcome (process_at node turn.pid)) (runs-good left)
 
 -- what a node says is a call that a node can make
 pub says-node_call : (node : Node) → IsNodeActorCall (says node).call

@@ -29,7 +29,7 @@ use Rattle.ce_solo.proofs.Projection.Held.{held-own, granted-own, left-own}
 use Rattle.ce_solo.proofs.Projection.Invariant.{IsHeld, IsNextState}
 use Rattle.ce_solo.proofs.Projection.Law.{projected, lawful-entry}
 use Rattle.ce_machine.proofs.NodeCalls.{IsNodeActorCall}
-use Rattle.ce_machine.proofs.Changes.{same_cube, next, grant_to, Change, nothing, grants, drains, frees, calls, change-of}
+use Rattle.ce_machine.proofs.Changes.{same_cube, next_state, user_grant, Change, nothing, grants, drains, frees, calls, change-of}
 use Rattle.ce_machine.proofs.Called.{HasFewPlaces, left_now, own-is, sound-now, node-call, call-few}
 
 -- ---- the room
@@ -248,7 +248,7 @@ module _ (parts : MachineParts) (machine : IsMachine parts) (h : List Entry) (en
 
   -- a cube that makes a call
   held_next : (cube : HeldCube) → cube_held_by (after h) entry.user ≡ Some cube
-      → next h entry ≡ with_cube entry.user (cube_after_entry entry) (λ cube. record_after_entry cube.grant.sub entry) (after h)
+      → next_state h entry ≡ with_cube entry.user (cube_after_entry entry) (λ cube. record_after_entry cube.grant.sub entry) (after h)
       → cube_held_by (after h') entry.user ≡ Some (cube_after_entry entry cube)
   held_next cube holds e =
       ap (λ state. cube_held_by state entry.user) e
@@ -276,7 +276,7 @@ module _ (parts : MachineParts) (machine : IsMachine parts) (h : List Entry) (en
   own-next : Change parts h entry → (cube' : HeldCube) → cube_held_by (after h') entry.user ≡ Some cube' → IsSmallCube (length h + 1) cube'
   own-next (nothing e) cube' held = more_room (length h) cube' (room.cubes entry.user cube' (ap (λ state. cube_held_by state entry.user) (sym e) ∙ held))
   own-next (grants dim sub none free e) cube' held =
-      let grant = grant_to entry.user dim sub in
+      let grant = user_grant entry.user dim sub in
       let now : HeldCube = record { number = (after h).grant_count; grant = grant; is_drained = false; allowed_dispatches = 0; made_dispatches = 0; parcel_count = 0; mail = [] } in
       let same = same_cube now cube' (sym (granted-own grant (after h) none) ∙ ap (λ state. cube_held_by state entry.user) (sym e) ∙ held) in
       subst (IsSmallCube (length h + 1)) same (record {

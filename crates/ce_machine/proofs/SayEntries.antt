@@ -44,7 +44,7 @@ use Rattle.ce_machine.specs.Tables.{HostRecord, cube_host, desk_at, host_at}
 use Rattle.ce_machine.specs.Desks.{AreChanged, change_at_node, with_busy_mark, with_start, with_kill}
 use Rattle.ce_machine.specs.Orders.{say_of_order, call_of_order, what_of_order, hearing_of_order, with_order, HasOrderRoom}
 use Rattle.ce_machine.specs.Gives.{hearing_item, result_of_hearing, chosen_item, items_left}
-use Rattle.ce_machine.proofs.Changes.{next}
+use Rattle.ce_machine.proofs.Changes.{next_state}
 use Rattle.ce_machine.proofs.QueueRoom.{queue_room_lem, IsSmallRecord, node-limits}
 use Rattle.ce_machine.proofs.Answered.{place_of, call-answered, note-answer}
 use Rattle.ce_machine.proofs.CallEffects as effects
@@ -156,7 +156,7 @@ module _ (m : SoundMachine) (who : Who) where
   open who use {family as user, actor}
 
   abbrev now : What → MachineState
-  now what = next h (entry_of who.family who.actor what)
+  now what = next_state h (entry_of who.family who.actor what)
 
   -- the caller is busy, and the desk of a node changes
   changed_at : (what : What) (n : ℕ) (change : NodeRecord → NodeRecord) → (now what).node_record n ≡ effects.with_call_mark who.actor n (change ((after h).node_record n))

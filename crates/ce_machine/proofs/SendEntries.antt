@@ -18,6 +18,7 @@ use Rattle.ce_model.specs.Trace.{NodeRecord}
 use Rattle.ce_model.specs.Subcubes.{relative_number}
 use Rattle.ce_model.specs.Renaming.{CubeGrant, number_outward, place_outward, renamed_targets}
 use Rattle.ce_model.specs.Machine.{HeldCube, after, what_of_request, IsCallOf}
+use Rattle.ce_solo.proofs.Lists.{all-weaker}
 use Rattle.ce_solo.proofs.Projection.Numbers.{IsPlaced, IsNumber, place_in_out}
 use Rattle.ce_model.specs.Literals.{entry_of}
 use Rattle.ce_lock.specs.declared.who.Who.{Who}
@@ -33,7 +34,7 @@ use Rattle.ce_machine.specs.Requests.{request_of, IsFittingCall}
 use Rattle.ce_machine.specs.Replies.{IsHearingReply, actor_items}
 use Rattle.ce_machine.specs.Tables.{HostRecord, cube_host}
 use Rattle.ce_machine.specs.Desks.{AreChanged, change_at_node, with_busy_mark, with_items, letter, letters, IsInCube, HasMailRoom}
-use Rattle.ce_machine.proofs.Changes.{next}
+use Rattle.ce_machine.proofs.Changes.{next_state}
 use Rattle.ce_machine.proofs.QueueRoom as room
 use Rattle.ce_machine.proofs.Called.{IsTarget, target-number, target-pid, call-places}
 use Rattle.ce_machine.proofs.Answered.{call-answered, send-answer}
@@ -51,10 +52,6 @@ from-all P (x ∷ xs) all = (all 0 x (omega arith), from-all P xs (λ k other be
 in-batch : (P : Place → Type 0) (batch : List (Place × Block)) → AllByRecursion (λ target. P target.0) (targets_of batch) → AllByRecursion (λ target. P target.0) batch
 in-batch P [] all = tt
 in-batch P (target ∷ batch) all = (all.0, in-batch P batch all.1)
-
-weaker : {X : Type 0} (P Q : X → Type 0) (xs : List X) → ((x : X) → P x → Q x) → AllByRecursion P xs → AllByRecursion Q xs
-weaker P Q [] to all = tt
-weaker P Q (x ∷ xs) to all = (to x all.0, weaker P Q xs to all.1)
 
 module _ (dim : ℕ) (grant : CubeGrant) (at : IsPlaced dim grant) (actor pid : ℕ) (bytes : List ℕ) (node : ℕ) where
   abbrev from : Place
@@ -106,7 +103,7 @@ module _ {N : Type 0} {home : N → ℕ} {clean : N → Type 0} (m : SoundMachin
         ≡ mails_at sending.cube.grant.sub (record { node = who.actor; pid = pid }) sending.cube.parcel_count (bytes_of batch) node (targets_of batch)
     arrive node =
         letters-are parts.dim cube.grant at actor pid bytes node cube.parcel_count batch
-        (weaker (λ (target : Place × Block). IsTarget cube.grant.dim target.0) (λ target. IsNumber cube.grant.dim target.0.node) batch (λ target is. target-number cube.grant.dim target.0 is) targets)
+        (all-weaker (λ (target : Place × Block). IsTarget cube.grant.dim target.0) (λ target. IsNumber cube.grant.dim target.0.node) batch (λ target is. target-number cube.grant.dim target.0 is) targets)
         (from-all (λ (target : Place × Block). target.1.bytes ≡ bytes) batch equal)
 
     -- the number of its first parcel fits
@@ -128,7 +125,7 @@ module _ {N : Type 0} {home : N → ℕ} {clean : N → Type 0} (m : SoundMachin
       pub send-places : AllByRecursion (λ (target : Place × Block). IsInCube grant.dim target.0) batch
       send-places =
           subst (λ (g : Grant). AllByRecursion (λ (target : Place × Block). IsInCube g.dim target.0) batch) (sym same_grant)
-          (weaker (λ (target : Place × Block). IsTarget cube.grant.dim target.0) (λ target. IsInCube cube.grant.dim target.0) batch
+          (all-weaker (λ (target : Place × Block). IsTarget cube.grant.dim target.0) (λ target. IsInCube cube.grant.dim target.0) batch
           (λ target is. (target-number cube.grant.dim target.0 is, target-pid cube.grant.dim target.0 is)) targets)
 
       -- there is room at each desk, and for the host
@@ -186,7 +183,7 @@ module _ {N : Type 0} {home : N → ℕ} {clean : N → Type 0} (m : SoundMachin
           places_are ∙ ap (λ (g : Grant). renamed_targets (place_outward g.sub) (λ id. id) to) same_grant in
           let what_is : whats.Send pid first at_places sent_bytes ≡ made = λ i. whats.Send pid (count i) (places i) (bytes_are i) in
           let change : ℕ → NodeRecord → NodeRecord = λ node node_record. change_at_node actor with_busy_mark node (with_items (posts node) node_record) in
-          let each : (node : ℕ) → (node == HOST) ≡ false → (next h (entry_of who.family who.actor made)).node_record node ≡ change node ((after h).node_record node) =
+          let each : (node : ℕ) → (node == HOST) ≡ false → (next_state h (entry_of who.family who.actor made)).node_record node ≡ change node ((after h).node_record node) =
           λ node apart. sent-each parts sound.machine h sound.lawful user cube sending.holds actor pid to bytes sending.is node apart
           ∙ busy_with (actor == node) ((after h).node_record node) (arrived node)
           ∙ ap (λ items. change_at_node actor with_busy_mark node (with_items items ((after h).node_record node))) (sym (all node)) in
@@ -202,7 +199,7 @@ module _ {N : Type 0} {home : N → ℕ} {clean : N → Type 0} (m : SoundMachin
           (is ∙ ap (λ what. h ++ entry_of who.family who.actor what ∷ []) what_is)
           (tables-call m user actor made (send_call pid (renamed_targets (place_outward cube.grant.sub) (λ id. id) to) bytes) refl desks' (set hosts user host'') _ host''
           (busied.count ∙ posted.count)
-          (desks-changed m (next h (entry_of who.family who.actor made)) desks' change
+          (desks-changed m (next_state h (entry_of who.family who.actor made)) desks' change
           (chained desks mid desks' (λ node. with_items (posts node)) (change_at_node actor with_busy_mark) posted busied) each)
           (host-set hosts user host'' host'' below refl)
           (sent-cube parts sound.machine h sound.lawful user cube sending.holds actor pid to bytes sending.is) host_now)

@@ -5,7 +5,7 @@ use Rattle.std.proofs.lemmas.Bool.{cases_Bool}
 use Rattle.ce_model.specs.declared.topology.BlockId.{BlockId}
 use Rattle.ce_model.specs.declared.entry.Entry.{Entry}
 use Rattle.ce_model.specs.declared.entry.TakeResult.{TakeResult}
-use Rattle.ce_model.specs.declared.entry.TakeResult.TheVariants.{Start, Mail, Kill, Poll, Idle, Spent}
+use Rattle.ce_model.specs.declared.entry.TakeResult.TheVariants.{Mail}
 use Rattle.ce_model.specs.Lists.{without_first}
 use Rattle.ce_model.specs.Parcels.{Parcel, Item, start, mail, kill, is_eligible, take_result_of, is_named_by, parcel_in}
 use Rattle.ce_model.specs.Cube.{parcel_numbered}
@@ -14,10 +14,11 @@ use Rattle.ce_model.specs.Subcubes.{extract, is_inside}
 use Rattle.ce_model.specs.Renaming.{block_outward, renamed_item}
 use Rattle.ce_model.specs.Machine.{MachineParts, IsMachine, HeldCube, cube_held_by, after, IsLawful}
 use Rattle.ce_model.proofs.Subcubes.{node_of-extract}
-use Rattle.ce_solo.proofs.Lists.{count_by-cons, find-out, one_if-true}
+use Rattle.ce_solo.proofs.Lists.{count_by-cons, find-out, truth_bit-true}
 use Rattle.ce_solo.proofs.Items.{named-itself}
 use Rattle.ce_solo.proofs.Records.{named_once}
 use Rattle.ce_solo.proofs.Projection.Numbers.{inside_below}
+use Rattle.ce_solo.proofs.Projection.Entries.{named-renamed}
 use Rattle.ce_solo.proofs.Projection.Law.{projected}
 use Rattle.ce_machine.proofs.Called.{left_now, sound-now, own}
 
@@ -31,7 +32,7 @@ found-counts test named (y ∷ ys) x found is =
       | inl t ↦
           let here : Some y ≡ Some x = rw t at found in
           let same : y ≡ x = cc in
-          omega (arith, count_by-cons named y ys, one_if-true (named y) (ap named same ∙ is))
+          omega (arith, count_by-cons named y ys, truth_bit-true (named y) (ap named same ∙ is))
       | inr f ↦ let later : find test ys ≡ Some x = rw f at found in omega (arith, count_by-cons named y ys, found-counts test named ys x later is)
     ]
 
@@ -50,22 +51,12 @@ same-without test named (y ∷ ys) x found is once =
       | inr f ↦
           let later : find test ys ≡ Some x = rw f at found in
           elim (cases_Bool (named y)) [
-            | inl n ↦ absurd (omega (arith, once, count_by-cons named y ys, one_if-true (named y) n, found-counts test named ys x later is))
+            | inl n ↦ absurd (omega (arith, once, count_by-cons named y ys, truth_bit-true (named y) n, found-counts test named ys x later is))
             | inr n ↦ rw (f, n) (ap (λ rest. y ∷ rest) (same-without test named ys x later is (omega (arith, once, count_by-cons named y ys))))
           ]
     ]
 
 -- ---- what waits at a node of the machine
-
-same_name : (rename : BlockId → BlockId) (given : TakeResult) (item : Item) → is_named_by given (renamed_item rename item) ≡ is_named_by given item
-same_name rename given (start pid image) = refl
-same_name rename (Mail pid number) (mail parcel) = refl
-same_name rename (Start pid image) (mail parcel) = refl
-same_name rename (Kill pid) (mail parcel) = refl
-same_name rename (Poll pid) (mail parcel) = refl
-same_name rename Idle (mail parcel) = refl
-same_name rename Spent (mail parcel) = refl
-same_name rename given (kill pid) = refl
 
 count-renamed : (rename : BlockId → BlockId) (given : TakeResult) (items : List Item) → count_by (is_named_by given) (map (renamed_item rename) items) ≡ count_by (is_named_by given) items
 count-renamed rename given [] = refl
@@ -74,7 +65,7 @@ count-renamed rename given (item ∷ items) =
       arith,
       count_by-cons (is_named_by given) (renamed_item rename item) (map (renamed_item rename) items),
       count_by-cons (is_named_by given) item items,
-      ap {B = ℕ} (λ b. if b then 1 else 0) (same_name rename given item),
+      ap {B = ℕ} (λ b. if b then 1 else 0) (named-renamed rename given item),
       count-renamed rename given items,
     )
 

@@ -1,5 +1,6 @@
 -- What changes on the desks of nodes.
-use Rattle.std.specs.Prelude.{◌≡◌, ◌⊎◌, ℕ, ◌+◌, ◌^◌, ◌<◌, ◌≤◌, ◌==◌, if◌then◌else◌, false, List, [], ◌∷◌, ◌++◌, length}
+use Rattle.std.specs.Prelude.{◌≡◌, ◌⊎◌, ℕ, ◌+◌, ◌^◌, ◌<◌, ◌≤◌, ◌==◌, if◌then◌else◌, false, List, [], ◌∷◌, ◌++◌, length, map, flat_map}
+use Rattle.std.specs.List.{range_with_len}
 use Rattle.ce_model.specs.declared.topology.TheConstants.{HOST}
 use Rattle.ce_model.specs.declared.topology.Place.{Place}
 use Rattle.ce_model.specs.declared.topology.Subcube.{Subcube}
@@ -34,7 +35,7 @@ abbrev pub with_busy_mark : NodeRecord → NodeRecord
 with_busy_mark node_record =
     record node_record { mark = record node_record.mark { is_idle = false } }
 
--- an item waits from now on
+-- these items wait from now on
 abbrev pub with_items : List Item → NodeRecord → NodeRecord
 with_items items node_record =
     record node_record { waiting_items = node_record.waiting_items ++ items }
@@ -42,6 +43,12 @@ with_items items node_record =
 -- nothing waits any longer
 abbrev pub without_items : NodeRecord → NodeRecord
 without_items node_record = record node_record { waiting_items = [] }
+
+-- all that waits at the nodes of a cube, in relative order
+abbrev pub cube_items : List NodeRecord → (dim : ℕ) → Subcube → List Item
+cube_items desks dim sub =
+    flat_map (λ node. (desk_at desks node).waiting_items)
+    (map (node_of sub) (range_with_len 0 (2 ^ dim)))
 
 -- the start of a process waits from now on, and its id is used
 abbrev pub with_start : (pid image : ℕ) → NodeRecord → NodeRecord

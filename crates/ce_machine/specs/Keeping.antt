@@ -23,7 +23,7 @@ use Rattle.ce_solo.proofs.Projection.Law.{after-more, projected, lawful-entry}
 use Rattle.ce_machine.specs.declared.call.Call.{Call}
 use Rattle.ce_machine.specs.declared.call.Call.TheVariants as calls
 use Rattle.ce_machine.specs.declared.call.Reply.{Reply}
-use Rattle.ce_machine.specs.Requests.{request_of, HasBroughtBoxes, IsFittingCall}
+use Rattle.ce_machine.specs.Requests.{request_of, number_and_grant, HasBroughtBoxes, IsFittingCall}
 use Rattle.ce_machine.specs.Meanings.{whose, is_alone_call, is_alone_what, is_alone_entry, IsAnsweredBy}
 
 -- ---- options
@@ -44,10 +44,6 @@ same_some : {X : Type 0} (x y : X) → Some x ≡ Some y → x ≡ y
 same_some x y e = ap (some_or x) e
 
 -- ---- the grants that are held
-
--- a cube's number and its grant
-abbrev pub number_and_grant : HeldCube → ℕ × CubeGrant
-number_and_grant cube = (cube.number, cube.grant)
 
 -- the grants stay where a change of cubes keeps numbers and grants
 pub grants-kept : (test : HeldCube → Bool) (change : HeldCube → HeldCube) (cubes : List HeldCube)

@@ -2,7 +2,8 @@
 use Rattle.std.specs.Prelude.{ℕ, List}
 use Rattle.ce_model.specs.declared.entry.Entry.{Entry}
 use Rattle.ce_model.specs.Node.{arm_call, look_call, mail_call}
-use Rattle.ce_model.specs.Machine.{MachineParts, IsMachine, Request, getcube, peek, drain, freecube, cube_request, IsFitting, HasHeldCube}
+use Rattle.ce_model.specs.Renaming.{CubeGrant}
+use Rattle.ce_model.specs.Machine.{MachineParts, IsMachine, Request, getcube, peek, drain, freecube, cube_request, HeldCube, IsFitting, HasHeldCube}
 use Rattle.ce_daemon.specs.Boxes.{AreGrantBoxes}
 use Rattle.ce_daemon.specs.Peeks.{numbered_grant}
 use Rattle.ce_lock.specs.declared.who.Who.{Who}
@@ -21,12 +22,16 @@ request_of Look = cube_request look_call
 request_of HostTake = cube_request mail_call
 request_of (Say say) = cube_request (call_of_say say)
 
+-- a cube's number and its grant
+abbrev pub number_and_grant : HeldCube → ℕ × CubeGrant
+number_and_grant cube = (cube.number, cube.grant)
+
 -- who gives a cube back brings the clean boxes of its nodes
 abbrev pub HasBroughtBoxes : {N : Type 0} → (N → ℕ) → (N → Type 0) → List Entry → ℕ → Call N
     → Type 0
 HasBroughtBoxes home clean history user (Freecube boxes) =
     HasHeldCube history user
-    (λ cube. AreGrantBoxes home clean (numbered_grant (cube.number, cube.grant)) boxes.items)
+    (λ cube. AreGrantBoxes home clean (numbered_grant (number_and_grant cube)) boxes.items)
 HasBroughtBoxes home clean history user other = Unit {0}
 
 -- a call of an actor of a family, which is a user of the machine, fits the history before it; the

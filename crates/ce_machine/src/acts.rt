@@ -68,7 +68,7 @@ impl<N: Homed> Machine<N> {
         requires { IsFittingCall N.home N.clean self.old.parts self.old.history who call }
         ensures answered { IfOk result (λ reply.
             HasAnswered N.home N.clean self.old self.new who call reply) }
-        ensures refused { IfErr result (λ back. (self.new ≡ self.old) × (back.0 ≡ call)) }
+        ensures refused { IfErr result (λ refusal. (self.new ≡ self.old) × (refusal.0 ≡ call)) }
     {
         match call {
             Call::Getcube { dim } => reply_or_call(
@@ -79,14 +79,14 @@ impl<N: Homed> Machine<N> {
             Call::Drain => reply_or_call(self.drain(alloc, who), Call::Drain),
             Call::Freecube { boxes } => match self.freecube(who, boxes) {
                 Ok(reply) => Ok(reply),
-                Err((boxes, error)) => Err((Call::Freecube { boxes }, error)),
+                Err((boxes, want)) => Err((Call::Freecube { boxes }, want)),
             },
             Call::Arm { count } => reply_or_call(self.arm(who, count), Call::Arm { count }),
             Call::Look => reply_or_call(self.look(who), Call::Look),
             Call::HostTake => reply_or_call(self.host_take(who), Call::HostTake),
             Call::Say(say) => match self.say(alloc, who, say) {
                 Ok(reply) => Ok(reply),
-                Err((say, error)) => Err((Call::Say(say), error)),
+                Err((say, want)) => Err((Call::Say(say), want)),
             },
         }
     }
@@ -98,10 +98,10 @@ fn reply_or_call<N: Homed>(
     call: Call<N>,
 ) -> Result<Reply<N>, (Call<N>, NoMemory)>
     ensures { MatchResult reply (λ value. result ≡ Result.Ok value)
-        (λ error. result ≡ Result.Err (call, error)) }
+        (λ want. result ≡ Result.Err (call, want)) }
 {
     match reply {
         Ok(value) => Ok(value),
-        Err(error) => Err((call, error)),
+        Err(want) => Err((call, want)),
     }
 }

@@ -136,7 +136,7 @@ impl Desk {
     }
 
     /// Takes out the first item that the node can be given.
-    pub(crate) fn next(&mut self, asking: u32, dead: u32) -> Option<Item>
+    pub(crate) fn take_next(&mut self, asking: u32, dead: u32) -> Option<Item>
         ensures first { option_map item_of result
             ≡ find (is_eligible asking dead) self.old.waiting_items }
         ensures rest { self.new
@@ -144,14 +144,14 @@ impl Desk {
               waiting_items = without_first (is_eligible asking dead) self.old.waiting_items;
             } }
     {
-        self.mailbox.next(asking, dead)
+        self.mailbox.take_next(asking, dead)
     }
 
     /// Whether an item waits that the node can be given.
-    pub(crate) fn has(&self, asking: u32, dead: u32) -> bool
+    pub(crate) fn has_eligible(&self, asking: u32, dead: u32) -> bool
         ensures { result ≡ list_any (is_eligible asking dead) self.now.waiting_items }
     {
-        self.mailbox.has(asking, dead)
+        self.mailbox.has_eligible(asking, dead)
     }
 
     /// The node has asked for work with these sets; whether it was answered that there is nothing
@@ -177,7 +177,7 @@ impl Desk {
     pub(crate) fn is_quiet(&self) -> bool
         ensures { result ≡ is_quiet_node self.now }
     {
-        self.is_idle && !self.mailbox.has(self.asking, self.dead)
+        self.is_idle && !self.mailbox.has_eligible(self.asking, self.dead)
     }
 
     /// Takes all that waits out, and puts the blocks of the messages behind those that were taken

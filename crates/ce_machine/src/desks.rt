@@ -1,4 +1,4 @@
-ghost use Rattle.std.specs.Prelude.{◌≡◌, ◌⊎◌, ℕ, ◌+◌, ◌^◌, ◌<◌, ◌≤◌, ◌==◌, if◌then◌else◌, List, [], ◌∷◌, ◌++◌, length, map, flat_map, vec_capacity};
+ghost use Rattle.std.specs.Prelude.{◌≡◌, ◌⊎◌, ℕ, ◌+◌, ◌^◌, ◌<◌, ◌≤◌, ◌==◌, if◌then◌else◌, List, [], ◌∷◌, ◌++◌, length, map, vec_capacity};
 ghost use Rattle.std.specs.List.{list_all, AllByRecursion, range_with_len};
 ghost use Rattle.ce_model.specs.declared.topology.TheConstants.{HOST};
 ghost use Rattle.ce_model.specs.Limits.{greatest_dim, process_count, node_room, mail_room};
@@ -10,7 +10,7 @@ ghost use Rattle.ce_model.specs.Subcubes.{node_of, relative_number, IsSubcube};
 ghost use Rattle.rk_mail.specs.Items.{parcel_of};
 ghost use Rattle.rk_mail.specs.Targets.{targets_of};
 ghost use Rattle.ce_machine.specs.Tables.{HostRecord, desk_at};
-ghost use Rattle.ce_machine.specs.Desks.{AreChanged, change_at_node, change_at_nodes, with_busy_mark, with_items, without_items, IsOnDesks, letters, IsInCube, HasMailRoom};
+ghost use Rattle.ce_machine.specs.Desks.{AreChanged, change_at_node, change_at_nodes, with_busy_mark, with_items, without_items, cube_items, IsOnDesks, letters, IsInCube, HasMailRoom};
 ghost use Rattle.ce_machine.specs.Orders.{HasOrderRoom, what_of_order, hearing_of_order, with_order};
 
 use crate::desk::Desk;
@@ -92,8 +92,7 @@ pub(crate) fn is_quiet(desks: &Vec<Desk>, grant: &Grant) -> bool
 // How many items wait at the nodes of a cube.
 pub(crate) fn waiting_count(desks: &Vec<Desk>, grant: &Grant) -> usize
     requires { IsOnDesks (length desks.now.items) grant.now.dim grant.now.sub }
-    ensures count { result ≡ length (flat_map (λ node. (desk_at desks.now.items node).waiting_items)
-        (map (node_of grant.now.sub) (range_with_len 0 (2 ^ grant.now.dim)))) }
+    ensures count { result ≡ length (cube_items desks.now.items grant.now.dim grant.now.sub) }
     ensures within { result < 2 ^ 32 }
 {
     let mut count = 0;
@@ -108,14 +107,12 @@ pub(crate) fn waiting_count(desks: &Vec<Desk>, grant: &Grant) -> usize
 pub(crate) fn drain_nodes(desks: &mut Vec<Desk>, grant: &Grant, blocks: &mut Vec<Block>)
     requires sub { IsOnDesks (length desks.old.items) grant.now.dim grant.now.sub }
     requires room { length blocks.old.items
-        + length (flat_map (λ node. (desk_at desks.old.items node).waiting_items)
-        (map (node_of grant.now.sub) (range_with_len 0 (2 ^ grant.now.dim))))
+        + length (cube_items desks.old.items grant.now.dim grant.now.sub)
         ≤ vec_capacity blocks.old }
     ensures desks { AreChanged desks.old.items desks.new.items
         (change_at_nodes grant.now.sub without_items) }
     ensures blocks { blocks.new.items ≡ blocks.old.items ++ map (λ parcel. parcel.block)
-        (item_parcels (flat_map (λ node. (desk_at desks.old.items node).waiting_items)
-        (map (node_of grant.now.sub) (range_with_len 0 (2 ^ grant.now.dim))))) }
+        (item_parcels (cube_items desks.old.items grant.now.dim grant.now.sub)) }
     ensures capacity { vec_capacity blocks.new ≡ vec_capacity blocks.old }
 {
     for r in 0..node_count(grant) {

@@ -32,11 +32,11 @@ pub(crate) fn offer(
     if is_used_up {
         return match poller {
             Some(_) => Hearing::Spent,
-            None if desk.has(asking, dead) => Hearing::Spent,
+            None if desk.has_eligible(asking, dead) => Hearing::Spent,
             None => Hearing::Idle,
         };
     }
-    match desk.next(asking, dead) {
+    match desk.take_next(asking, dead) {
         Some(Item::Start { pid, image }) => Hearing::Start { pid, image },
         Some(Item::Mail(parcel)) => Hearing::Mail(parcel),
         Some(Item::Kill { pid }) => Hearing::Kill { pid },

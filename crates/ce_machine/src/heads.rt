@@ -84,7 +84,7 @@ impl<N: Homed> Machine<N> {
             (Call.Freecube boxes) }
         ensures answered { IfOk result (λ reply.
             HasAnswered N.home N.clean self.old self.new who (Call.Freecube boxes) reply) }
-        ensures refused { IfErr result (λ back. (self.new ≡ self.old) × (back.0 ≡ boxes)) }
+        ensures refused { IfErr result (λ refusal. (self.new ≡ self.old) × (refusal.0 ≡ boxes)) }
     {
         let Ok(()) = make_room(&mut self.history) else {
             return Err((boxes, NoMemory));

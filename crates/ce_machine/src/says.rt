@@ -28,7 +28,7 @@ impl<N: Homed> Machine<N> {
             (Call.Say say) }
         ensures answered { IfOk result (λ reply.
             HasAnswered N.home N.clean self.old self.new who (Call.Say say) reply) }
-        ensures refused { IfErr result (λ back. (self.new ≡ self.old) × (back.0 ≡ say)) }
+        ensures refused { IfErr result (λ refusal. (self.new ≡ self.old) × (refusal.0 ≡ say)) }
     {
         match say {
             Say::Take {
@@ -45,7 +45,7 @@ impl<N: Homed> Machine<N> {
             ),
             Say::Send { pid, batch } => match self.send(alloc, who, pid, batch) {
                 Ok(hearing) => Ok(Reply::Heard(hearing)),
-                Err((batch, error)) => Err((Say::Send { pid, batch }, error)),
+                Err((batch, want)) => Err((Say::Send { pid, batch }, want)),
             },
             Say::Spawn { pid, image, to } => reply_or_say(
                 self.order(who, pid, Order::Spawn { image }, to),
@@ -108,7 +108,7 @@ impl<N: Homed> Machine<N> {
             (Call.Say (Say.Send pid batch)) }
         ensures answered { IfOk result (λ hearing. HasAnswered N.home N.clean self.old self.new who
             (Call.Say (Say.Send pid batch)) (Reply.Heard hearing)) }
-        ensures refused { IfErr result (λ back. (self.new ≡ self.old) × (back.0 ≡ batch)) }
+        ensures refused { IfErr result (λ refusal. (self.new ≡ self.old) × (refusal.0 ≡ batch)) }
     {
         let Ok((mut to, bytes)) = room_for(alloc, &mut self.history, &batch) else {
             return Err((batch, NoMemory));
@@ -157,11 +157,11 @@ fn reply_or_say<N: Homed>(
     say: Say,
 ) -> Result<Reply<N>, (Say, NoMemory)>
     ensures { MatchResult hearing (λ value. result ≡ Result.Ok (Reply.Heard value))
-        (λ error. result ≡ Result.Err (say, error)) }
+        (λ want. result ≡ Result.Err (say, want)) }
 {
     match hearing {
         Ok(value) => Ok(Reply::Heard(value)),
-        Err(error) => Err((say, error)),
+        Err(want) => Err((say, want)),
     }
 }
 

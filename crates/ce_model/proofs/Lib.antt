@@ -1,5 +1,7 @@
 pub mod AloneByEntries
+pub mod BlockOrder
 pub mod CallNumbers
+pub mod Members
 pub mod OneMore
 pub mod Rows
 pub mod Subcubes

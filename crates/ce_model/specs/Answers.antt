@@ -21,9 +21,9 @@ is_used_up standing = standing.made_dispatches == standing.allowed_dispatches
 -- what a node is given, by the first item that it can be given, the process that polls longest, and
 -- whether the allowed dispatches are used up
 abbrev pub offer_of : Option Item → Option ℕ → Bool → TakeResult
-offer_of (Some item) poller is_spent = if is_spent then Spent else take_result_of item
-offer_of None (Some pid) is_spent = if is_spent then Spent else Poll pid
-offer_of None None is_spent = Idle
+offer_of (Some item) poller is_used_up = if is_used_up then Spent else take_result_of item
+offer_of None (Some pid) is_used_up = if is_used_up then Spent else Poll pid
+offer_of None None is_used_up = Idle
 
 -- an id is among those that were spawned, or whose kill was accepted
 abbrev pub is_among : ℕ → List ℕ → Bool
@@ -48,8 +48,8 @@ is_quiet nodes standing = list_all (λ r. is_quiet_node (standing.node_record r)
 
 -- what a look finds, by whether the cube is quiet and whether the allowed dispatches are used up
 abbrev pub look_result_where : Bool → Bool → LookResult
-look_result_where is_still is_spent = if is_still then look_result.Quiet
-    else (if is_spent then look_result.Spent else look_result.Busy)
+look_result_where is_quiet is_used_up = if is_quiet then look_result.Quiet
+    else (if is_used_up then look_result.Spent else look_result.Busy)
 
 -- the number of the first parcel that waits
 abbrev pub first_number : List Item → Option ℕ

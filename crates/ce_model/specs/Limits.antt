@@ -19,7 +19,7 @@ pub process_count_lem : process_count ≡ 8
 unfolding process_count
 process_count_lem = refl
 
--- how many message blocks each node and each host is home to
+-- how many message blocks are homed at each node and at each user's host
 unfoldable pub home_blocks : ℕ
 home_blocks = HOME_BLOCKS
 
@@ -52,7 +52,7 @@ pub window_count_lem : window_count ≡ 32_768
 unfolding window_count
 window_count_lem = refl
 
--- where a process's windows begin
+-- the address of a process's first window
 unfoldable pub window_base : ℕ
 window_base = WINDOW_BASE
 
@@ -60,7 +60,7 @@ pub window_base_lem : window_base ≡ 0x8000_0000
 unfolding window_base
 window_base_lem = refl
 
--- how far two windows are apart
+-- how far the addresses of two windows that follow one another are apart
 unfoldable pub window_size : ℕ
 window_size = WINDOW_SIZE
 
@@ -76,7 +76,7 @@ pub greatest_targets_lem : greatest_targets ≡ 64
 unfolding greatest_targets
 greatest_targets_lem = refl
 
--- how many instructions a turn may run
+-- how many instructions a turn may run, calls of the kernel included
 unfoldable pub turn_instructions : ℕ
 turn_instructions = TURN_INSTRUCTIONS
 
@@ -116,7 +116,8 @@ pub greatest_images_lem : greatest_images ≡ 64
 unfolding greatest_images
 greatest_images_lem = refl
 
--- how many messages can wait for a host
+-- how many messages can wait in a cube: as many as the greatest cube has blocks, those of its host
+-- included
 unfoldable pub mail_room : ℕ
 mail_room = MAIL_ROOM
 
@@ -124,7 +125,7 @@ pub mail_room_lem : mail_room ≡ 2_080
 unfolding mail_room
 mail_room_lem = refl
 
--- how many items can wait at a node
+-- how many items can wait at a node: all messages, and a start and a kill of each process
 unfoldable pub node_room : ℕ
 node_room = NODE_ROOM
 
@@ -132,7 +133,7 @@ pub node_room_lem : node_room ≡ 2_096
 unfolding node_room
 node_room_lem = refl
 
--- how many entries a history can have
+-- how many entries a machine's history can have
 unfoldable pub greatest_history : ℕ
 greatest_history = GREATEST_HISTORY
 
@@ -140,7 +141,8 @@ pub greatest_history_lem : greatest_history ≡ 2 ^ 57
 unfolding greatest_history
 greatest_history_lem = refl
 
--- the home of the blocks of a cube's host
+-- the home of the blocks of a cube's host, as the cube knows it; in the machine it is this and the
+-- user's number together
 unfoldable pub host_home : ℕ
 host_home = HOST_HOME
 

@@ -2,7 +2,7 @@
 use Rattle.std.specs.Prelude.{ℕ, zero, suc, ◌+◌, Bool, true, false, List, [], replicate, slice_index, slice_set}
 use Rattle.rv_model.specs.declared.stop.Stop.{Stop}
 use Rattle.rv_model.specs.declared.stop.Stop.TheVariants.{TurnSpent}
-use Rattle.rv_model.specs.Exec.{Outcome, next_state, call_state, stop_state, exec}
+use Rattle.rv_model.specs.Exec.{Outcome, next_state, call_state, stop_state, step_outcome}
 use Rattle.rv_model.specs.Image.{ImageParts}
 use Rattle.rv_model.specs.Private.{with_loaded_bytes}
 use Rattle.rv_model.specs.declared.limits.TheConstants.{A0, PRIVATE_END, REGISTER_COUNT, SP}
@@ -88,9 +88,13 @@ end_after onward instructions_left p (call_state registers pc space) =
     call_end instructions_left (moved_process p registers pc space)
 end_after onward instructions_left p (stop_state cause) = stop_end instructions_left p cause
 
+-- what a process's next instruction comes to
+abbrev pub instruction_outcome : Process → Outcome Space
+instruction_outcome p = step_outcome process_access p.registers p.pc p.space
+
 -- what a process comes to that may run so many instructions more: its next kernel call, its stop,
 -- or the end of its turn
 unfoldable pub turn_end : ℕ → Process → TurnEnd
 turn_end zero p = stop_end 0 p TurnSpent
 turn_end (suc instructions_left) p = end_after (turn_end instructions_left) instructions_left p
-    (exec process_access p.registers p.pc p.space)
+    (instruction_outcome p)

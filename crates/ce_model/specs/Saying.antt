@@ -1,9 +1,9 @@
 -- What a node says: its turn runs to the next call that leaves the node.
 use Rattle.std.specs.Prelude.{ℕ, zero, suc, Option, Some, None}
 use Rattle.rv_model.specs.declared.stop.Stop.TheVariants.{TurnSpent}
-use Rattle.rv_model.specs.Exec.{Outcome, next_state, call_state, stop_state, exec}
-use Rattle.ce_model.specs.Space.{Space, process_access}
-use Rattle.ce_model.specs.Process.{Process, moved_process}
+use Rattle.rv_model.specs.Exec.{Outcome, next_state, call_state, stop_state}
+use Rattle.ce_model.specs.Space.{Space}
+use Rattle.ce_model.specs.Process.{Process, moved_process, instruction_outcome}
 use Rattle.ce_model.specs.Node.{Turn, Node, process_at, with_process, with_stopped_process, Call, take_call_of}
 use Rattle.ce_model.specs.Kernel.{CallOutcome, continuation, departure, turn_conclusion, kernel}
 
@@ -35,17 +35,13 @@ saying_after_instruction onward instructions_left node turn p (call_state regist
 saying_after_instruction onward instructions_left node turn p (stop_state cause) =
     idle_saying (with_stopped_process node turn.pid p cause)
 
--- what a process's next instruction comes to
-abbrev pub instruction : Process → Outcome Space
-instruction p = exec process_access p.registers p.pc p.space
-
 -- what a node says whose turn may run so many instructions more
 unfoldable pub turn_saying : ℕ → Node → Turn → Saying
 turn_saying zero node turn =
     idle_saying (with_stopped_process node turn.pid (process_at node turn.pid) TurnSpent)
 turn_saying (suc instructions_left) node turn =
     saying_after_instruction (turn_saying instructions_left) instructions_left node turn
-    (process_at node turn.pid) (instruction (process_at node turn.pid))
+    (process_at node turn.pid) (instruction_outcome (process_at node turn.pid))
 
 -- what a node says that is in this turn
 abbrev pub saying_in : Node → Option Turn → Saying

@@ -121,8 +121,8 @@ pub record IsSoundTurn (turn : Turn) : Type 0 where
   pub calls : turn.calls ≤ turn_calls
 
 -- the names of a store rise
-abbrev pub AreInOrder : List BlockId → Type 0
-AreInOrder ids = ArePairwise (λ a b. is_lower a b ≡ true) ids
+abbrev pub AreRisingIds : List BlockId → Type 0
+AreRisingIds ids = ArePairwise (λ a b. is_lower a b ≡ true) ids
 
 -- node r of a cube; the list of those in `xrecv` has exactly the ids that poll, each once
 pub record IsSoundNode (cube : Cube) (node_record : NodeRecord) (r : ℕ) (node : Node) : Type 0 where
@@ -136,7 +136,7 @@ pub record IsSoundNode (cube : Cube) (node_record : NodeRecord) (r : ℕ) (node 
   pub polling_ids : (pid : ℕ) → count_by (λ other. other == pid) node.polling_ids
       ≡ (if is_polling (process_at node pid).status then 1 else 0)
   pub turn : IfSome node.turn IsSoundTurn
-  pub store : AreInOrder node.store
+  pub store : AreRisingIds node.store
 
 -- ---- the cube
 
@@ -146,7 +146,7 @@ pub record IsSound (cube : Cube) (s : CubeState) : Type 0 where
   pub records : (r : ℕ) → r < 2 ^ cube.dim
       → IsSoundRecord cube s.standing.parcel_count r (s.standing.node_record r)
   pub host : IsSoundHost s.standing.parcel_count (s.standing.node_record HOST).waiting_items
-  pub hoststore : AreInOrder s.hoststore
+  pub hoststore : AreRisingIds s.hoststore
   pub owners : HasOneOwner cube.dim s
   pub blocks : AllByRecursion (λ holding. IsBlockOf cube.dim holding.1) (holdings cube.dim s)
   pub dispatches : s.standing.made_dispatches ≤ s.standing.allowed_dispatches

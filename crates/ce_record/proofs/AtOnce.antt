@@ -15,10 +15,10 @@ use Rattle.ce_script.specs.Rounds.{RoundKind}
 use Rattle.ce_script.specs.Moments.{Holding, later_moments}
 use Rattle.ce_script.specs.Commands.{IsCommand, IsAtPlace, IsSend, freecube_entries}
 use Rattle.ce_script.specs.Doings.{IsRefusedIfGetcube}
-use Rattle.ce_record.specs.Asked.{wants_cube, command_place}
-use Rattle.ce_record.specs.Held.{cube_holding, history_holding, granted_cube}
+use Rattle.ce_record.specs.Requests.{wants_cube, command_place}
+use Rattle.ce_record.specs.HeldCubes.{cube_holding, history_holding, granted_cube}
 use Rattle.ce_record.specs.Run.{next_doing, IsNextCommand}
-use Rattle.ce_record.proofs.Held.{own-user}
+use Rattle.ce_record.proofs.HeldCubes.{own-user}
 use Rattle.ce_record.specs.Laws.{NoCubeIsNext}
 
 -- a command is next by what its user holds

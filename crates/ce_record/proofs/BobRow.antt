@@ -21,7 +21,7 @@ use Rattle.ce_script.proofs.RowUsedAgain.{the_script, the_record}
 use Rattle.ce_script.proofs.UsedAgainDone.{HasSaidRow, start_round, idle_round, bob_trace}
 use Rattle.ce_script.proofs.UsedAgainLegal.{is_lawful}
 use Rattle.ce_record.specs.CubeRounds.{IsRoundOf, IsRunOf}
-use Rattle.ce_record.specs.Held.{AreTurnsOverIn}
+use Rattle.ce_record.specs.HeldCubes.{AreTurnsOverIn}
 use Rattle.ce_record.specs.Run.{IsNextCommand}
 use Rattle.ce_record.proofs.Running.{run}
 

@@ -20,11 +20,11 @@ use Rattle.ce_script.specs.declared.script.Script.{Script}
 use Rattle.ce_script.specs.Bounds.{IsWithinLimits, IsUserCommandWithin}
 use Rattle.ce_script.specs.Rounds.{RoundKind, serial}
 use Rattle.ce_script.specs.Moments.{moments}
-use Rattle.ce_script.specs.Doings.{Doing, AreDoings}
+use Rattle.ce_script.specs.Doings.{Doing, command_with_answer, user_command_of, AreDoings}
 use Rattle.ce_script.specs.Legal.{IsLegal, IsRecordOfScript, script_images, machine_of, EachUser, EachCube}
 use Rattle.ce_script.specs.Serial.{doings_of, IsSerial}
 use Rattle.ce_record.specs.Run.{IsRunSoFar, IsRecordOfRun}
-use Rattle.ce_record.specs.Users.{HasDoneSoFar, command_with_answer}
+use Rattle.ce_record.specs.Users.{HasDoneSoFar}
 use Rattle.ce_record.specs.Laws.{ScriptHasMachine, RunIsLegal, UsersAreLegal, NoUserIsLegal}
 use Rattle.ce_record.proofs.Moments.{map-none}
 use Rattle.ce_record.proofs.Run.{run_begins}
@@ -89,14 +89,10 @@ unfolding moments
 no_history [] none = refl
 no_history (entry ∷ history) none = absurd (cc)
 
--- a command of a user, without what it did
-abbrev command_of : ℕ × Doing → ℕ × Command
-command_of own = (own.0, own.1.command)
-
 -- the commands of what a user did are the user's of all commands
 commands_done : (number : ℕ) (all : List (ℕ × Doing))
     → map (λ (done : Command × Answer). done.0) (map command_with_answer (doings_of number all))
-    ≡ map (λ (own : ℕ × Command). own.1) (filter (λ (own : ℕ × Command). own.0 == number) (map command_of all))
+    ≡ map (λ (own : ℕ × Command). own.1) (filter (λ (own : ℕ × Command). own.0 == number) (map user_command_of all))
 commands_done number [] = refl
 commands_done number (own ∷ all) =
     elim (cases_Bool (own.0 == number)) [
@@ -191,7 +187,7 @@ module _ (script : Script) (run_record : Record) (all : List (ℕ × Doing)) (wi
   empty : script.users ≡ [] → run_record.history ≡ []
   empty none =
       let few = subst (λ users. AllByRecursion (IsUserCommandWithin (length users) (length script.images)) script.commands) none within.commands in
-      let nothing = map-none command_of all (keeps.commands ∙ no_commands (length script.images) script.commands few) in
+      let nothing = map-none user_command_of all (keeps.commands ∙ no_commands (length script.images) script.commands few) in
       no_history run_record.history (sym (ap (flat_map (λ (own : ℕ × Doing). own.1.moments)) nothing) ∙ run.together)
 
   -- what a user was answered

@@ -1,13 +1,13 @@
-pub mod Asked
 pub mod AtOnce
 pub mod BobRow
 pub mod GoesOn
-pub mod Held
+pub mod HeldCubes
 pub mod Legal
 pub mod Messages
 pub mod Moments
 pub mod NoFitRow
 pub mod Replies
+pub mod Requests
 pub mod Run
 pub mod Running
 pub mod Turns

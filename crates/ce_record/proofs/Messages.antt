@@ -21,7 +21,7 @@ use Rattle.ce_solo.proofs.Projection.Views.{view-is}
 use Rattle.ce_solo.proofs.Projection.Law.{projected}
 use Rattle.ce_host.specs.declared.answer.Answer.TheVariants.{Message}
 use Rattle.ce_script.specs.Commands.{message_reply}
-use Rattle.ce_record.specs.Held.{granted_cube}
+use Rattle.ce_record.specs.HeldCubes.{granted_cube}
 use Rattle.ce_record.specs.Laws.{MessageIsSent}
 
 -- the parcel of this number

@@ -7,7 +7,7 @@ use Rattle.std.proofs.lemmas.List.Elements.{filter-append}
 use Rattle.std.proofs.lemmas.Grind.{flat_map-append}
 use Rattle.ce_model.specs.declared.entry.Entry.{Entry}
 use Rattle.ce_model.proofs.Walked.{one_further}
-use Rattle.ce_solo.proofs.Lists.{all-weaker}
+use Rattle.ce_solo.proofs.Lists.{all-weaker, filter-kept}
 use Rattle.ce_script.specs.Moments.{Moment, later_moments, moments, user_moments, moment_entries, own_entries}
 use Rattle.ce_record.specs.Users.{own_moments}
 
@@ -23,10 +23,6 @@ map-none f (x ∷ xs) none = absurd (cc)
 
 pub flat-last : {X Y : Type 0} (f : X → List Y) (xs : List X) (x : X) → flat_map f (xs ++ x ∷ []) ≡ flat_map f xs ++ f x
 flat-last f xs x = flat_map-append f xs (x ∷ []) ∙ ap (λ more. flat_map f xs ++ more) (append-nil (f x))
-
-pub filter-every : {X : Type 0} (test : X → Bool) (xs : List X) → AllByRecursion (λ x. test x ≡ true) xs → filter test xs ≡ xs
-filter-every test [] all = refl
-filter-every test (x ∷ xs) all = rw all.0 (ap (λ ys. x ∷ ys) (filter-every test xs all.1))
 
 pub filter-no : {X : Type 0} (test : X → Bool) (xs : List X) → AllByRecursion (λ x. test x ≡ false) xs → filter test xs ≡ []
 filter-no test [] all = refl
@@ -78,7 +74,7 @@ own-append user history between =
 -- by entries of this user
 pub own-all : (user : ℕ) (history made : List Entry) → AllByRecursion (λ entry. entry.user ≡ user) made → own_moments user history made ≡ later_moments history made
 own-all user history made all =
-    filter-every (λ (moment : Moment). moment.entry.user == user) (later_moments history made)
+    filter-kept (λ (moment : Moment). moment.entry.user == user) (later_moments history made)
     (all-behind (λ entry. (entry.user == user) ≡ true) history made
     (all-weaker (λ entry. entry.user ≡ user) (λ entry. (entry.user == user) ≡ true) made (λ entry is. eq-eqb _ _ is) all))
 

@@ -25,10 +25,10 @@ use Rattle.ce_script.specs.Legal.{machine_of, IsLegal}
 use Rattle.ce_script.specs.Serial.{IsSerial}
 use Rattle.ce_script.proofs.Rows.{entry_of, block, subcube}
 use Rattle.ce_script.proofs.RowNoFit.{grant, the_script, the_record}
-use Rattle.ce_record.specs.Asked.{IsMadeByRequest, command_request, entry_reply}
+use Rattle.ce_record.specs.Requests.{IsMadeByRequest, command_request, entry_reply}
 use Rattle.ce_record.specs.Run.{IsRunSoFar, next_doing, IsNextCommand}
 use Rattle.ce_record.proofs.AtOnce.{freecube_next}
-use Rattle.ce_record.proofs.Asked.{asked}
+use Rattle.ce_record.proofs.Requests.{asked}
 use Rattle.ce_record.proofs.Run.{run_begins, run_goes_on}
 use Rattle.ce_record.proofs.Legal.{run_is_legal}
 

@@ -6,9 +6,8 @@ use Rattle.std.proofs.lemmas.Bool.{ne_eqb}
 use Rattle.std.proofs.lemmas.List.{map-append}
 use Rattle.ce_host.specs.declared.command.Command.{Command}
 use Rattle.ce_host.specs.declared.answer.Answer.{Answer}
-use Rattle.ce_script.specs.Doings.{Doing}
+use Rattle.ce_script.specs.Doings.{Doing, command_with_answer}
 use Rattle.ce_script.specs.Serial.{doings_of}
-use Rattle.ce_record.specs.Users.{command_with_answer}
 use Rattle.ce_record.specs.Laws.{RepliesBegin, RepliesGoOn}
 use Rattle.ce_record.proofs.Run.{doings-own, doings-other}
 

@@ -10,12 +10,12 @@ use Rattle.ce_script.specs.Rounds.{RoundKind}
 use Rattle.ce_script.specs.Moments.{Moment, Holding, later_moments, user_moments, moment_entries}
 use Rattle.ce_script.specs.Commands.{IsWithCube, IsCommand}
 use Rattle.ce_script.specs.Doings.{Doing, holding_behind, IsRightDoing, IsRefusedIfGetcube}
-use Rattle.ce_record.specs.Asked.{wants_cube}
-use Rattle.ce_record.specs.Held.{history_holding}
+use Rattle.ce_record.specs.Requests.{wants_cube}
+use Rattle.ce_record.specs.HeldCubes.{history_holding}
 use Rattle.ce_record.specs.Users.{HasDoneSoFar, own_moments}
 use Rattle.ce_record.specs.Laws.{UserBegins, UserWaits, UserGoesOn}
 use Rattle.ce_record.proofs.Moments.{map-none, flat-last, entries-behind, entries-amid, entries-own, own-append, own-all, own-stays}
-use Rattle.ce_record.proofs.Held.{held_after_is_held}
+use Rattle.ce_record.proofs.HeldCubes.{held_after_is_held}
 
 pub user_begins : UserBegins
 user_begins kind machine user history none = record {

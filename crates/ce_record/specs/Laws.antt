@@ -27,16 +27,16 @@ use Rattle.ce_script.specs.declared.record.Record.{Record}
 use Rattle.ce_script.specs.declared.script.Script.{Script}
 use Rattle.ce_script.specs.Bounds.{IsWithinLimits}
 use Rattle.ce_script.specs.Rounds.{RoundKind, serial}
-use Rattle.ce_script.specs.Moments.{user_moments, moment_entries, holding, own_entries, IsCallOf}
+use Rattle.ce_script.specs.Moments.{user_moments, moment_entries, holding, own_entries, IsCallOfUser}
 use Rattle.ce_script.specs.Commands.{run_reply, RecvEnd, message_reply, recv_reply, freecube_entries}
-use Rattle.ce_script.specs.Doings.{Doing, holding_behind}
+use Rattle.ce_script.specs.Doings.{Doing, command_with_answer, holding_behind}
 use Rattle.ce_script.specs.Legal.{IsLegal, IsRecordOfScript, EachUser, machine_of}
 use Rattle.ce_script.specs.Serial.{IsSerial}
-use Rattle.ce_record.specs.Asked.{wants_cube, command_place, command_request, entry_reply, hearing_reply, IsMadeByRequest}
+use Rattle.ce_record.specs.Requests.{wants_cube, command_place, command_request, entry_reply, hearing_reply, IsMadeByRequest}
 use Rattle.ce_record.specs.CubeRounds.{IsRunOf, IsRecvOf}
-use Rattle.ce_record.specs.Held.{history_holding, granted_cube, AreTurnsOverIn}
+use Rattle.ce_record.specs.HeldCubes.{history_holding, granted_cube, AreTurnsOverIn}
 use Rattle.ce_record.specs.Run.{IsRunSoFar, next_doing, IsNextCommand, AreReplies, IsRecordOfRun}
-use Rattle.ce_record.specs.Users.{HasDoneSoFar, command_with_answer, own_doing}
+use Rattle.ce_record.specs.Users.{HasDoneSoFar, own_doing}
 
 -- ---- what users hold
 
@@ -122,7 +122,8 @@ abbrev pub RunIsLegal : Type 0
 RunIsLegal = (script : Script) (run_record : Record) (all : List (ℕ × Doing))
     → IsWithinLimits script → IsLawful (machine_of script) run_record.history
     → IsRunSoFar serial (machine_of script) run_record.history all
-    → IsRecordOfRun script all run_record → IsLegal serial script run_record × IsSerial script run_record
+    → IsRecordOfRun script all run_record
+    → IsLegal serial script run_record × IsSerial script run_record
 
 -- The record of a script with a user is legal, where its history is lawful, it has all the script's
 -- commands, and each user did them in this history, with rounds of this kind, and was answered so.
@@ -251,7 +252,7 @@ OfCube P = OfHolder
 abbrev pub TraceGoesOn : Type 0
 TraceGoesOn = OfCube
     (λ parts history user cube. (new_entries : List Entry)
-    → AllByRecursion (IsCallOf user) new_entries
+    → AllByRecursion (IsCallOfUser user) new_entries
     → view (history ++ new_entries) cube.number ≡ view history cube.number
     ++ map (entry_inward cube.grant.sub) new_entries)
 
@@ -259,7 +260,7 @@ TraceGoesOn = OfCube
 abbrev pub CubeStays : Type 0
 CubeStays = OfCube
     (λ parts history user cube. (new_entries : List Entry)
-    → AllByRecursion (IsCallOf user) new_entries
+    → AllByRecursion (IsCallOfUser user) new_entries
     → IsSomeAnd (cube_held_by (after (history ++ new_entries)) user)
     (λ later. (later.number ≡ cube.number) × (later.grant ≡ cube.grant)
     × (later.is_drained ≡ false)))

@@ -1,6 +1,6 @@
-pub mod Asked
 pub mod CubeRounds
-pub mod Held
+pub mod HeldCubes
 pub mod Laws
+pub mod Requests
 pub mod Run
 pub mod Users

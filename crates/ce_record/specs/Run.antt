@@ -10,10 +10,10 @@ use Rattle.ce_script.specs.declared.script.Script.{Script}
 use Rattle.ce_script.specs.Rounds.{RoundKind}
 use Rattle.ce_script.specs.Moments.{moments, later_moments}
 use Rattle.ce_script.specs.Commands.{IsCommand}
-use Rattle.ce_script.specs.Doings.{Doing, IsRefusedIfGetcube}
+use Rattle.ce_script.specs.Doings.{Doing, command_with_answer, user_command_of, IsRefusedIfGetcube}
 use Rattle.ce_script.specs.Serial.{doings_of}
-use Rattle.ce_record.specs.Held.{history_holding}
-use Rattle.ce_record.specs.Users.{HasDoneSoFar, command_with_answer}
+use Rattle.ce_record.specs.HeldCubes.{history_holding}
+use Rattle.ce_record.specs.Users.{HasDoneSoFar}
 
 -- What all users did so far, in the order in which it was done: the entries of each command stand
 -- together and make up this history, and each user's part is what it did so far.
@@ -53,6 +53,6 @@ AreReplies all reply_lists =
 -- is the script's commands.
 pub record IsRecordOfRun (script : Script) (all : List (ℕ × Doing))
     (run_record : Record) : Type 0 where
-  pub commands : map (λ user_doing. (user_doing.0, user_doing.1.command)) all ≡ script.commands
+  pub commands : map user_command_of all ≡ script.commands
   pub users : map (λ user. user.name) run_record.users ≡ script.users
   pub replies : AreReplies all (map (λ user. user.done) run_record.users)

@@ -6,11 +6,7 @@ use Rattle.ce_host.specs.declared.command.Command.{Command}
 use Rattle.ce_host.specs.declared.answer.Answer.{Answer}
 use Rattle.ce_script.specs.Rounds.{RoundKind}
 use Rattle.ce_script.specs.Moments.{Moment, later_moments}
-use Rattle.ce_script.specs.Doings.{Doing, AreDoings, AreRefusedExactly}
-
--- a command with its reply
-abbrev pub command_with_answer : Doing → Command × Answer
-command_with_answer doing = (doing.command, doing.answer)
+use Rattle.ce_script.specs.Doings.{Doing, command_with_answer, AreDoings, AreRefusedExactly}
 
 -- All that a user did so far in this history: each command did, was answered and was refused as it
 -- must be behind those before it.

@@ -30,7 +30,8 @@ pub record IsRowEntry (parts : MachineParts) (earlier_entries : List RowEntry)
   pub fits : IsFitting parts
       (history_of earlier_entries) row_entry.entry.user row_entry.entry.actor row_entry.request
   pub answer : what_of_request parts
-      (after (history_of earlier_entries)) row_entry.entry.user row_entry.entry.actor row_entry.request ≡ Some row_entry.entry.what
+      (after (history_of earlier_entries)) row_entry.entry.user row_entry.entry.actor
+      row_entry.request ≡ Some row_entry.entry.what
 
 -- the machine allows the row
 abbrev pub AreRowEntries : Row → Type 0
@@ -50,9 +51,8 @@ IsNextRowCall row count who call = IsSomeAnd (slice_get row.entries count)
 abbrev pub IsNextRowReply : {N : Type 0} → (N → ℕ) → (N → Type 0) → Row → ℕ → Reply N → Type 0
 IsNextRowReply home clean row count reply =
     IsSomeAnd (slice_get row.entries count)
-    (λ row_entry. IsReplyTo home clean row.parts
-    (after (history_of
-    (take count row.entries))) row_entry.entry.user row_entry.entry.actor row_entry.entry.what reply)
+    (λ row_entry. IsReplyTo home clean row.parts (after (history_of (take count row.entries)))
+    row_entry.entry.user row_entry.entry.actor row_entry.entry.what reply)
 
 -- a call with which nobody brings boxes
 abbrev pub IsCallWithoutBoxes : {N : Type 0} → Call N → Type 0

@@ -11,6 +11,7 @@ use ce_model::NoMemory;
 use std::alloc::Global;
 
 /// What the machine answers to the call of a worked row that comes behind its first `count` ones.
+/// `NoMemory` may come at any time.
 pub fn ask<N: Homed>(
     machine: &mut Machine<N>,
     alloc: Global,
@@ -27,6 +28,6 @@ pub fn ask<N: Homed>(
 {
     match machine.act(alloc, who, call) {
         Ok(reply) => Ok(reply),
-        Err((_, error)) => Err(error),
+        Err((_, want)) => Err(want),
     }
 }

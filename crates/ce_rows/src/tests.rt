@@ -1,13 +1,12 @@
-mod boxes;
 mod calls;
 mod opening;
 mod running;
 mod wanted;
 
 use crate::WorkedRow;
-use boxes::node_boxes;
 use ce_daemon::node_numbers;
 use opening::open;
+use rk_node::node_boxes;
 use running::{next_owner, run};
 use std::test::Fail;
 

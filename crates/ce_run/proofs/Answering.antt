@@ -20,7 +20,7 @@ use Rattle.ce_solo.proofs.Lists.{all-append}
 use Rattle.ce_daemon.specs.declared.grant.Grant.{Grant}
 use Rattle.ce_machine.specs.Meanings.{MachineFacts}
 use Rattle.ce_cube.specs.Boxes.{IsHeldAs}
-use Rattle.ce_cube.specs.Crews.{IsLawfulMachine, IsCrewInStep, HasCrewGoneOn, HasMadeRound, box_at, CrewFacts, HasMadeSerialRound}
+use Rattle.ce_cube.specs.Crews.{IsLawfulMachine, IsCrewInStep, HasCrewGoneOn, HasMadeRound, box_at, CrewFacts, HasMadeSerialRound, cube_dispatches_left}
 use Rattle.ce_daemon.specs.Peeks.{cube_grant}
 use Rattle.ce_cube.proofs.Counts.{boxes_in_step-end-turns}
 use Rattle.ce_cube.proofs.Crewing.{still-sound, gone-both, stands-still}
@@ -30,7 +30,7 @@ use Rattle.ce_host.specs.declared.answer.Answer.TheVariants.{Message}
 use Rattle.ce_script.specs.Rounds.{RoundKind, serial, joined_lists, AreTurnsOver}
 use Rattle.ce_script.specs.Commands.{host_take, run_reply, RecvEnd, message_next, message_behind_rest, no_message, end_entries, end_rounds, message_reply, no_message_reply, recv_reply}
 use Rattle.ce_record.specs.CubeRounds.{IsRoundOf, IsRunOf, IsRecvOf}
-use Rattle.ce_record.specs.Held.{AreTurnsOverIn}
+use Rattle.ce_record.specs.HeldCubes.{AreTurnsOverIn}
 use Rattle.ce_record.specs.Laws.{sent_to_host}
 use Rattle.ce_record.proofs.Moments.{flat-last}
 use Rattle.ce_record.proofs.GoesOn.{trace_goes_on}
@@ -38,8 +38,8 @@ use Rattle.ce_record.proofs.Messages.{message}
 use Rattle.ce_record.proofs.Running.{run, recv}
 use Rattle.ce_record.proofs.Turns.{work-inward}
 use Rattle.ce_run.specs.Rounds.{HasAllowed, HasLooked, HasTakenNone, HasTaken, HasRunRounds}
-use Rattle.ce_run.specs.UserStates.{HasDone, own_crew}
-use Rattle.ce_run.proofs.Going.{IsOwnRound, IsCrewResting, crew_dispatches_left, by-grant, all-by-grant, round-of, left-behind, rests-on, left-on}
+use Rattle.ce_run.specs.UserStates.{HasDone, cube_crew}
+use Rattle.ce_run.proofs.Going.{IsOwnRound, IsCrewResting, by-grant, all-by-grant, round-of, left-behind, rests-on, left-on}
 use Rattle.ce_cube.proofs.Looks.{IsCubeAtRest, rests-behind, found-resting}
 use Rattle.ce_run.proofs.StatesBehind.{done-by}
 
@@ -71,7 +71,7 @@ module _ (kind : RoundKind) (before behind : MachineFacts) (crew crew' : CrewFac
       on.parts (turns-over behind crew' on.in_step))))
 
   pub run-ends : (count : ℕ) (found : LookResult) (answer : Answer) → IsRunOf kind crew.grant.user (cube_grant crew.grant) count found made
-      → run_reply found ≡ Some answer → HasDone kind before behind crew.grant.user (Run count) answer (own_crew crew')
+      → run_reply found ≡ Some answer → HasDone kind before behind crew.grant.user (Run count) answer (cube_crew crew')
   run-ends count found answer is reply =
       done-by kind before behind crew crew' made (Run count) answer on (inr refl)
       (run kind before.parts before.history crew.grant.user step.held.cube step.held.held sound.within sound.lawful step.held.goes_on count found answer made
@@ -79,7 +79,7 @@ module _ (kind : RoundKind) (before behind : MachineFacts) (crew crew' : CrewFac
 
   pub recv-ends : (count : ℕ) (end : RecvEnd) (answer : Answer) → IsRecvOf kind crew.grant.user (cube_grant crew.grant) count end made
       → recv_reply (sent_to_host before.parts step.held.cube (view (before.history ++ made) step.held.cube.number)) end ≡ Some answer
-      → HasDone kind before behind crew.grant.user (Recv count) answer (own_crew crew')
+      → HasDone kind before behind crew.grant.user (Recv count) answer (cube_crew crew')
   recv-ends count end answer is reply =
       done-by kind before behind crew crew' made (Recv count) answer on (inr refl)
       (recv kind before.parts before.history crew.grant.user step.held.cube step.held.held sound.within sound.lawful step.held.goes_on count end answer made
@@ -145,7 +145,7 @@ module _ (kind : RoundKind) (before armed ran behind : MachineFacts) (crew crew1
       (gone-both kind before ran behind crew crew2 crew3 (host_entry crew.grant.user (Arm count) ∷ (joined_lists rounds.rounds ++ rounds.last)) (run_look ∷ []) first
       (looked-by kind ran behind crew crew2 crew3 found first.grant looked))
 
-  pub run-done : run_reply found ≡ Some answer → HasDone kind before behind crew.grant.user (Run count) answer (own_crew crew3)
+  pub run-done : run_reply found ≡ Some answer → HasDone kind before behind crew.grant.user (Run count) answer (cube_crew crew3)
   run-done reply =
       run-ends kind before behind crew crew3 run_made sound step run-on count found answer (record {
         rounds = rounds.rounds;
@@ -182,7 +182,7 @@ pub record HasWaited (kind : RoundKind) (before now : MachineFacts) (crew crew' 
 
 -- how many rounds may come at most
 abbrev pub rounds_left : Bool → MachineFacts → CrewFacts → ℕ
-rounds_left has_work m crew = crew_dispatches_left m crew + (if has_work then 1 else 0)
+rounds_left has_work m crew = cube_dispatches_left m crew.grant + (if has_work then 1 else 0)
 
 pub waits-first : (kind : RoundKind) (m : MachineFacts) (crew : CrewFacts) → IsLawfulMachine m → IsCrewInStep m.parts m.history crew → HasWaited kind m m crew crew true
 waits-first kind m crew sound step = record { rounds = []; last = []; goes_on = stands-still kind m crew sound step; with_work = tt; without_work = tt }
@@ -320,7 +320,7 @@ module _ (kind : RoundKind) (before armed now : MachineFacts) (crew crew1 crew2 
           (subst (λ (p : MachineParts). IsToldIn p (cube_grant crew.grant) (view behind.history crew.grant.number)) armed-on.parts
           (subst (λ (g : Grant). IsToldIn now.parts (cube_grant g) (view behind.history g.number)) armed-on.grant told-now)))
 
-      pub message-done : HasDone kind before behind crew.grant.user (Recv count) (Message from bytes) (own_crew crew3)
+      pub message-done : HasDone kind before behind crew.grant.user (Recv count) (Message from bytes) (cube_crew crew3)
       message-done =
           recv-ends kind before behind crew crew3 made sound step taken-on count (message_end has_work so_far.last taken.number) (Message from bytes) (record {
             rounds = so_far.rounds;
@@ -347,7 +347,7 @@ module _ (kind : RoundKind) (before armed now : MachineFacts) (crew crew1 crew2 
         (append_assoc (look_entries user so_far.rounds) (host_take user None ∷ so_far.last) (host_take user None ∷ look ∷ []))
         (gone-both kind before now behind crew crew2 crew4 (arm ∷ (look_entries user so_far.rounds ++ host_take user None ∷ so_far.last)) (host_take user None ∷ look ∷ []) first ends)
 
-    pub none-done : (answer : Answer) → no_message_reply found ≡ Some answer → HasDone kind before behind crew.grant.user (Recv count) answer (own_crew crew4)
+    pub none-done : (answer : Answer) → no_message_reply found ≡ Some answer → HasDone kind before behind crew.grant.user (Recv count) answer (cube_crew crew4)
     none-done answer reply =
         recv-ends kind before behind crew crew4 quiet_made sound step quiet-on count (no_message so_far.last found) answer (record {
           rounds = so_far.rounds;

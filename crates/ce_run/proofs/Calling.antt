@@ -6,7 +6,7 @@ use Rattle.ce_model.specs.Renaming.{CubeGrant, entry_inward}
 use Rattle.ce_model.specs.Views.{view}
 use Rattle.ce_model.specs.Machine.{MachineParts, IsMachine, after, IsFitting, what_of_request}
 use Rattle.ce_model.specs.Literals.{host_entry}
-use Rattle.rk_node.specs.Boxes.{Box}
+use Rattle.rk_node.specs.Boxes.{Box, home_of}
 use Rattle.ce_machine.specs.Meanings.{MachineFacts}
 use Rattle.ce_machine.specs.declared.call.Call.{Call}
 use Rattle.ce_machine.specs.declared.call.Call.TheVariants.{Freecube}
@@ -18,7 +18,7 @@ use Rattle.ce_cube.specs.Crews.{IsLawfulMachine, box_at, CrewFacts}
 use Rattle.ce_daemon.specs.Peeks.{cube_grant}
 use Rattle.ce_cube.proofs.Adds.{calls-add}
 use Rattle.ce_cube.proofs.Crewing.{view-short}
-use Rattle.ce_run.specs.Asking.{home_of, HasAsked, AreNodesInStep, IsHostCall, HasHostCalled}
+use Rattle.ce_run.specs.Asking.{HasAsked, AreNodesInStep, IsHostCall, HasHostCalled}
 
 -- ---- a call of a cube
 

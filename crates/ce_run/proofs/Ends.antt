@@ -48,8 +48,13 @@ module _ {S K : Type 0} (left : S → Option (List ℕ)) (given faults : S → �
   -- words that aren't served, or for which there is no memory
   pub ends_at_words : (fault : RunFault) → (fault ≡ run_fault.Usage) ⊎ IsRunNoMemory (Some fault) → (fault ≡ run_fault.Usage → ¬ IsServed words) → HasEndedWith fault
   ends_at_words fault why refused = record {
-    status = refl;
-    kept = (λ none. absurd (cc), λ ran. absurd (no_run fault why ran));
+    written = record {
+      status = refl;
+      kept = (λ none. absurd (cc), λ ran. absurd (no_run fault why ran));
+      write = λ e. absurd (no_other fault run_fault.Write why (λ e. cc) (λ m. m) e);
+      no_write_failed = inr refl;
+      unwritten = inr refl;
+    };
     usage = λ e. refused (cc);
     served = elim why [ inl usage ↦ inr (inl (ap Some usage)) | inr memory ↦ inr (inr memory) ];
     unread = λ _. refl;
@@ -63,9 +68,6 @@ module _ {S K : Type 0} (left : S → Option (List ℕ)) (given faults : S → �
     faultless = λ ran _. absurd (no_run fault why ran);
     read = λ e. absurd (no_other fault run_fault.Read why (λ e. cc) (λ m. m) e);
     no_read_failed = inr refl;
-    write = λ e. absurd (no_other fault run_fault.Write why (λ e. cc) (λ m. m) e);
-    no_write_failed = inr refl;
-    unwritten = inr refl;
   }
 
 -- three facts of what is there together give a fourth
@@ -101,8 +103,7 @@ pub ends_of_load : {S K : Type 0} (left : S → Option (List ℕ)) (given faults
     (words : List (List ℕ)) (script : Script) (seed : ℕ) (end : RunEnd) → IsServed words → (line_of_words words).load ≡ Some seed
     → HasFinished script (Some seed) sink end → HasEnded words (reading left given faults s s) sink end
 ends_of_load left given faults s sink words script seed end served asked finished = record {
-  status = finished.status;
-  kept = finished.kept;
+  written = finished.written;
   usage = λ e. absurd (other_fault end.fault run_fault.Usage (λ f. f) (λ f. f) finished.fault e);
   served = inl served;
   unread = λ _. refl;
@@ -116,7 +117,4 @@ ends_of_load left given faults s sink words script seed end served asked finishe
   faultless = λ ran none. absurd (some_differs (line_of_words words).load seed asked none);
   read = λ e. absurd (other_fault end.fault run_fault.Read (λ f. f) (λ f. f) finished.fault e);
   no_read_failed = inr refl;
-  write = finished.write;
-  no_write_failed = finished.no_write_failed;
-  unwritten = finished.unwritten;
 }

@@ -18,7 +18,7 @@ use Rattle.ce_host.specs.declared.host.Host.{Host}
 use Rattle.ce_host.specs.declared.command.Command.{Command}
 use Rattle.ce_host.specs.declared.answer.Answer.{Answer}
 use Rattle.ce_cube.specs.Crews.{IsHostAtHome}
-use Rattle.ce_cube.proofs.Homes.{length-home}
+use Rattle.xm_block.proofs.HomeBlocks.{length-blocks_of_home}
 use Rattle.ce_cube.proofs.Fronts.{mix-serial}
 use Rattle.ce_script.specs.declared.record.UserRecord.{UserRecord}
 use Rattle.ce_script.specs.declared.record.Record.{Record}
@@ -28,17 +28,17 @@ use Rattle.ce_script.specs.Legal.{IsLegal, machine_of}
 use Rattle.ce_script.specs.Rounds.{serial}
 use Rattle.ce_script.specs.Serial.{IsSerial}
 use Rattle.ce_script.specs.Moments as moments
-use Rattle.ce_script.specs.Doings.{Doing}
-use Rattle.ce_record.specs.Held.{cube_holding, history_holding}
+use Rattle.ce_script.specs.Doings.{Doing, user_command_of}
+use Rattle.ce_record.specs.HeldCubes.{cube_holding, history_holding}
 use Rattle.ce_record.specs.Run.{IsRunSoFar, AreReplies, next_doing}
 use Rattle.ce_record.proofs.Moments.{foreign-to}
-use Rattle.ce_record.proofs.Held.{others_stay}
+use Rattle.ce_record.proofs.HeldCubes.{others_stay}
 use Rattle.ce_record.proofs.Legal.{script_has_machine, run_is_legal, no_user_is_legal}
 use Rattle.ce_record.proofs.Run.{run_begins, run_goes_on}
 use Rattle.ce_record.proofs.Replies.{replies_begin, replies_go_on}
 use Rattle.ce_run.specs.declared.user_state.UserState.{UserState}
 use Rattle.ce_run.specs.declared.user_state.UserState.TheVariants.{HomeHost, CubeCrew}
-use Rattle.ce_run.specs.UserStates.{HasDone, IsUserStateAt, IsUserAt, UserFacts, free_host, own_crew, user_facts}
+use Rattle.ce_run.specs.UserStates.{HasDone, IsUserStateAt, IsUserAt, UserFacts, home_host, cube_crew, user_facts}
 use Rattle.ce_run.specs.Script.{IsRunBehind, HasGoneFurther, IsFreeState, AreFreeStates}
 use Rattle.ce_run.proofs.StatesBehind.{crew-keeps}
 
@@ -56,8 +56,8 @@ same-trace h h' user cube holds same now =
 
 pub state-stays : (parts : MachineParts) (h h' : List Entry) (user : ℕ) (facts : UserFacts) → cube_held_by (after h') user ≡ cube_held_by (after h) user
     → history_holding h' user ≡ history_holding h user → IsUserAt parts h user facts → IsUserAt parts h' user facts
-state-stays parts h h' user (free_host host) same now state_is = (same ∙ state_is.0, state_is.1)
-state-stays parts h h' user (own_crew crew) same now state_is =
+state-stays parts h h' user (home_host host) same now state_is = (same ∙ state_is.0, state_is.1)
+state-stays parts h h' user (cube_crew crew) same now state_is =
     let held = state_is.1.held in
     let at = ap (cube_held_by (after h)) (sym state_is.0) ∙ held.held in
     let trace = same-trace h h' user held.cube at same now in (
@@ -176,14 +176,10 @@ noted-in-place users user one command answer done below is more =
 
 -- ---- a whole run
 
--- a command of a user, without what it did
-abbrev pub own_command : ℕ × Doing → ℕ × Command
-own_command own = (own.0, own.1.command)
-
 -- the first commands of a script, so many, were carried out
 pub record HasDoneCommands (script : Script) (machine : MachineFacts) (user_states : List (Option UserState)) (users : List UserRecord) (count : ℕ) : Type 0 where
   pub all : List (ℕ × Doing)
-  pub commands : map own_command all ≡ take count script.commands
+  pub commands : map user_command_of all ≡ take count script.commands
   pub behind : IsRunBehind script machine user_states users all
 
 free-at : (parts : MachineParts) (user : ℕ) (user_state : UserState) → IsFreeState user user_state → IsUserStateAt parts [] user user_state
@@ -197,10 +193,10 @@ some-free parts user (Some user_state) is = free-at parts user user_state is
 
 -- a host that was just made is at home
 pub at-home : (user : ℕ) (host : Host) → ids_of host.store.blocks ≡ blocks_of_home (host_home + user) → host.store.spare + home_blocks ≡ greatest_blocks
-    → host.spare ≡ Some [] → IsHostAtHome user host
+    → host.spare_batch ≡ Some [] → IsHostAtHome user host
 at-home user host blocks room spare =
     let count : length host.store.blocks ≡ home_blocks =
-    sym (length-map host.store.blocks (λ block. block.id)) ∙ ap length blocks ∙ length-home (host_home + user) in
+    sym (length-map host.store.blocks (λ block. block.id)) ∙ ap length blocks ∙ length-blocks_of_home (host_home + user) in
     record { blocks = blocks; room = ap (λ n. host.store.spare + n) count ∙ room; spare = spare }
 
 -- one user more
@@ -308,7 +304,7 @@ module _ (script : Script) (machine : MachineFacts) (user_states : List (Option 
       → HasDoneCommands script machine' user_states' users' (suc count)
   part-more machine' user_states' users' user command below is gone = record {
     all = part.all ++ (user, gone.doing) ∷ [];
-    commands = map-append own_command part.all ((user, gone.doing) ∷ []) ∙ ap₂ (λ front command. front ++ (user, command) ∷ []) part.commands gone.command_is
+    commands = map-append user_command_of part.all ((user, gone.doing) ∷ []) ∙ ap₂ (λ front command. front ++ (user, command) ∷ []) part.commands gone.command_is
         ∙ ap (λ own. take count script.commands ++ own ∷ []) is ∙ sym (take-suc script.commands count (user, command) below);
     behind = gone.is script part.all part.behind;
   }

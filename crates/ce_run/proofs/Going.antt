@@ -18,7 +18,7 @@ use Rattle.ce_solo.proofs.Lists.{all-append}
 use Rattle.ce_solo.proofs.Projection.Numbers.{IsPlaced, relative_host, few_relative}
 use Rattle.ce_daemon.specs.declared.grant.Grant.{Grant}
 use Rattle.ce_machine.specs.Meanings.{MachineFacts}
-use Rattle.ce_cube.specs.Crews.{IsLawfulMachine, IsCrewInStep, HasCrewGoneOn, HasMadeRound, CrewFacts, HasMadeSerialRound}
+use Rattle.ce_cube.specs.Crews.{IsLawfulMachine, IsCrewInStep, HasCrewGoneOn, HasMadeRound, CrewFacts, HasMadeSerialRound, cube_dispatches_left}
 use Rattle.ce_daemon.specs.Peeks.{cube_grant}
 use Rattle.ce_cube.specs.Rounds.{dispatches_left}
 use Rattle.ce_cube.proofs.Crewing.{still-sound, stands-still, gone-both}
@@ -58,10 +58,6 @@ ready-stays kind before behind crew crew' made images on is = record {
 
 -- ---- rounds
 
--- the dispatches that are left to a crew
-abbrev pub crew_dispatches_left : MachineFacts → CrewFacts → ℕ
-crew_dispatches_left m crew = dispatches_left m.parts m.history crew.grant.number (cube_grant crew.grant)
-
 -- a crew's round, as one of its user's cube
 abbrev pub IsOwnRound : RoundKind → CrewFacts → Bool → List Entry → Type 0
 IsOwnRound kind crew work round = IsRoundOf kind crew.grant.user (cube_grant crew.grant) work round
@@ -75,9 +71,9 @@ round-of kind now behind crew crew' work made = record {
 }
 
 pub left-behind : (now behind : MachineFacts) (crew crew' : CrewFacts) (work : Bool) → HasMadeSerialRound now behind crew crew' work
-    → crew_dispatches_left behind crew' + (if work then 1 else 0) ≤ crew_dispatches_left now crew
+    → cube_dispatches_left behind crew'.grant + (if work then 1 else 0) ≤ cube_dispatches_left now crew.grant
 left-behind now behind crew crew' work made =
-    subst (λ (g : Grant). dispatches_left behind.parts behind.history g.number (cube_grant g) + (if work then 1 else 0) ≤ crew_dispatches_left now crew) (sym made.made_round.goes_on.grant) made.left
+    subst (λ (g : Grant). cube_dispatches_left behind g + (if work then 1 else 0) ≤ cube_dispatches_left now crew.grant) (sym made.made_round.goes_on.grant) made.left
 
 pub by-grant : (kind : RoundKind) (crew crew' : CrewFacts) (work : Bool) (round : List Entry) → crew'.grant ≡ crew.grant → IsOwnRound kind crew' work round
     → IsOwnRound kind crew work round
@@ -176,8 +172,8 @@ module _ (kind : RoundKind) (before behind : MachineFacts) (crew crew' : CrewFac
       (subst (λ t. (is_quiet (node_numbers grant.dim) (standing o t) || is_used_up (standing o t)) ≡ true) (sym trace)
       (ap₂ (λ a b. a || b) (quiet-kept o t crew.grant.user grant.dim (few_relative before.parts.dim grant placed)) (used-kept o t crew.grant.user) ∙ rests)))
 
-  pub left-on : crew_dispatches_left behind crew' ≡ crew_dispatches_left before crew
+  pub left-on : cube_dispatches_left behind crew'.grant ≡ cube_dispatches_left before crew.grant
   left-on =
-      subst (λ (g : Grant). dispatches_left behind.parts behind.history g.number (cube_grant g) ≡ crew_dispatches_left before crew) (sym none.grant)
-      (subst (λ (p : MachineParts). dispatches_left p behind.history crew.grant.number grant ≡ crew_dispatches_left before crew) (sym none.parts)
+      subst (λ (g : Grant). cube_dispatches_left behind g ≡ cube_dispatches_left before crew.grant) (sym none.grant)
+      (subst (λ (p : MachineParts). dispatches_left p behind.history crew.grant.number grant ≡ cube_dispatches_left before crew.grant) (sym none.parts)
       (ap (λ t. allowed_dispatches o t - made_dispatches o t) trace ∙ left-kept o t crew.grant.user))

@@ -13,7 +13,7 @@ use Rattle.ce_model.specs.Literals.{host_entry}
 use Rattle.ce_solo.proofs.Projection.Law.{after-more}
 use Rattle.ce_daemon.specs.declared.grant.Grant.{Grant}
 use Rattle.ce_daemon.specs.Boxes.{AreGrantBoxes}
-use Rattle.rk_node.specs.Boxes.{Box, IsCleanBox}
+use Rattle.rk_node.specs.Boxes.{Box, IsCleanBox, home_of}
 use Rattle.ce_host.specs.declared.host.Host.{Host}
 use Rattle.ce_host.specs.declared.command.Command.TheVariants.{Getcube}
 use Rattle.ce_host.specs.declared.answer.Answer.{Answer}
@@ -32,9 +32,9 @@ use Rattle.ce_cube.proofs.Begun.{grants-begin}
 use Rattle.ce_cube.proofs.Fronts.{mix-own}
 use Rattle.ce_script.specs.Rounds.{RoundKind}
 use Rattle.ce_script.specs.Commands.{getcube_reply}
-use Rattle.ce_record.proofs.Asked.{asked}
-use Rattle.ce_run.specs.UserStates.{HasUser, HasDone, IsUserAt, free_host, own_crew, UserFacts}
-use Rattle.ce_run.specs.Asking.{home_of, HasAsked}
+use Rattle.ce_record.proofs.Requests.{asked}
+use Rattle.ce_run.specs.UserStates.{HasUser, HasDone, IsUserAt, home_host, cube_crew, UserFacts}
+use Rattle.ce_run.specs.Asking.{HasAsked}
 use Rattle.ce_run.proofs.Peeking.{same-what}
 
 module _ (before : MachineFacts) (user dim : ℕ) (has : HasUser before user) (free : cube_held_by (after before.history) user ≡ None) (within : dim ≤ greatest_dim) where
@@ -86,16 +86,16 @@ module _ (before : MachineFacts) (user dim : ℕ) (has : HasUser before user) (f
     -- ---- none is free
 
     none-by : (kind : RoundKind) (sub : Option Subcube) → whats.Getcube dim sub ≡ asks.what → IsGrantReply home_of IsCleanBox state user dim sub reply → reply ≡ replies.NoneFree
-        → (host : Host) → IsHostAtHome user host → HasDone kind before behind user (Getcube dim) answers.None (free_host host)
+        → (host : Host) → IsHostAtHome user host → HasDone kind before behind user (Getcube dim) answers.None (home_host host)
     none-by kind None what is none host home =
-        done-so None what kind answers.None (free_host host) refl (
+        done-so None what kind answers.None (home_host host) refl (
           ap (λ h. cube_held_by (after h) user) (history-is None what)
               ∙ ap (λ (state : MachineState). cube_held_by state user) (after-more before.history (host_entry user (whats.Getcube dim None))) ∙ free,
           home,
         )
     none-by kind (Some sub) what is none host home = absurd (subst (IsReplyWithGrant home_of IsCleanBox (next_grant state.grant_count user dim sub)) none is)
 
-    pub none-done : (kind : RoundKind) → reply ≡ replies.NoneFree → (host : Host) → IsHostAtHome user host → HasDone kind before behind user (Getcube dim) answers.None (free_host host)
+    pub none-done : (kind : RoundKind) → reply ≡ replies.NoneFree → (host : Host) → IsHostAtHome user host → HasDone kind before behind user (Getcube dim) answers.None (home_host host)
     none-done kind = none-by kind found_now what-now reply-now
 
     granted-ends : (grant : Grant) (reply : Reply Box) → IsReplyWithGrant home_of IsCleanBox grant reply
@@ -151,7 +151,7 @@ module _ (before : MachineFacts) (user dim : ℕ) (has : HasUser before user) (f
       -- a crew that is in step wherever its cube has just begun is in step behind the entry
       pub granted-done : (kind : RoundKind) (crew : CrewFacts) → crew.grant ≡ grant
           → (IsHeldAs behind.history grant.number (cube_grant grant) → view behind.history grant.number ≡ [] → IsCrewInStep before.parts behind.history crew)
-          → HasDone kind before behind user (Getcube dim) (answers.Granted grant.sub) (own_crew crew)
+          → HasDone kind before behind user (Getcube dim) (answers.Granted grant.sub) (cube_crew crew)
       granted-done kind crew same in_step =
           let back = sym (history-is (Some so.sub) so.what) in
           let held : IsHeldAs behind.history grant.number (cube_grant grant) =
@@ -159,5 +159,5 @@ module _ (before : MachineFacts) (user dim : ℕ) (has : HasUser before user) (f
           (subst (λ h. IsHeldAs h state.grant_count (record { user = user; dim = dim; sub = so.sub })) back begun.held) in
           let trace : view behind.history grant.number ≡ [] =
           ap (λ (g : Grant). view behind.history g.number) so.grant_is ∙ ap (λ h. view h state.grant_count) (sym back) ∙ begun.trace in
-          done-so (Some so.sub) so.what kind (answers.Granted grant.sub) (own_crew crew) (ap (λ (g : Grant). answers.Granted g.sub) (sym so.grant_is))
+          done-so (Some so.sub) so.what kind (answers.Granted grant.sub) (cube_crew crew) (ap (λ (g : Grant). answers.Granted g.sub) (sym so.grant_is))
           (ap (λ (g : Grant). g.user) same ∙ user-is, in_step held trace)

@@ -21,7 +21,7 @@ use Rattle.ce_model.specs.Literals.{host_entry}
 use Rattle.ce_solo.proofs.Counting.{count-is}
 use Rattle.rk_node.proofs.Names.{not_contained}
 use Rattle.xm_block.specs.Stores.{ids_of, with_block}
-use Rattle.rk_node.specs.Boxes.{Box, IsCleanBox}
+use Rattle.rk_node.specs.Boxes.{Box, IsCleanBox, home_of}
 use Rattle.rk_mail.specs.Items.{parcel_of}
 use Rattle.rk_mail.specs.declared.parcel.Parcel.{Parcel}
 use Rattle.ce_host.specs.declared.host.Host.{Host}
@@ -37,7 +37,7 @@ use Rattle.ce_daemon.specs.Peeks.{cube_grant}
 use Rattle.ce_cube.proofs.Hosts.{hosts-take}
 use Rattle.ce_script.specs.Rounds.{RoundKind}
 use Rattle.ce_script.specs.Commands.{host_take}
-use Rattle.ce_run.specs.Asking.{home_of, IsHostCall, HasHostCalled}
+use Rattle.ce_run.specs.Asking.{IsHostCall, HasHostCalled}
 use Rattle.ce_run.specs.Rounds.{HasAllowed, HasLooked, HasTaken, HasTakenNone}
 use Rattle.ce_run.proofs.StatesBehind.{IsKeepingStore, answer-is, gone-on, gone-on-kept, may-allow, may-look, may-take}
 
@@ -268,7 +268,7 @@ module _ (before behind : MachineFacts) (crew crew' : CrewFacts) (machine : IsLa
                 length-map other.store.blocks (λ (block : Block). block.id),
                 length-map crew'.host.store.blocks (λ (block : Block). block.id),
               );
-          spare = ap (λ (host : Host). host.spare) (stored ∙ host-spare) ∙ step.host.spare;
+          spare = ap (λ (host : Host). host.spare_batch) (stored ∙ host-spare) ∙ step.host.spare;
         }
           where
             host-spare : record crew'.host { store = record { blocks = with_block parcel.block crew'.host.store.blocks; spare = crew'.host.store.spare - 1 } }

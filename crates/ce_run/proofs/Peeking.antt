@@ -7,7 +7,7 @@ use Rattle.ce_model.specs.Machine.{after, peek}
 use Rattle.ce_model.specs.Literals.{host_entry}
 use Rattle.ce_daemon.specs.declared.grant.PeekResult.{PeekResult}
 use Rattle.ce_daemon.specs.Peeks.{peek_result}
-use Rattle.rk_node.specs.Boxes.{Box, IsCleanBox}
+use Rattle.rk_node.specs.Boxes.{Box, IsCleanBox, home_of}
 use Rattle.ce_machine.specs.Meanings.{MachineFacts}
 use Rattle.ce_machine.specs.declared.call.Call.TheVariants as calls
 use Rattle.ce_machine.specs.declared.call.Reply.{Reply}
@@ -18,9 +18,9 @@ use Rattle.ce_host.specs.declared.command.Command.TheVariants.{Peek}
 use Rattle.ce_host.specs.declared.answer.Answer.TheVariants as answers
 use Rattle.ce_cube.proofs.Fronts.{mix-own}
 use Rattle.ce_script.specs.Rounds.{RoundKind}
-use Rattle.ce_record.proofs.Asked.{asked}
+use Rattle.ce_record.proofs.Requests.{asked}
 use Rattle.ce_run.specs.UserStates.{HasUser, HasDone, IsUserAt, UserFacts}
-use Rattle.ce_run.specs.Asking.{home_of, HasAsked}
+use Rattle.ce_run.specs.Asking.{HasAsked}
 use Rattle.ce_run.proofs.StatesBehind.{state-beside-peek}
 
 pub same-what : (a b : What) → Some a ≡ Some b → a ≡ b

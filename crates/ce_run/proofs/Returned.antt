@@ -19,7 +19,7 @@ use Rattle.ce_solo.proofs.Projection.Held.{held-own, left-own}
 use Rattle.ce_daemon.specs.Boxes.{AreGrantBoxes}
 use Rattle.ce_daemon.specs.Peeks.{numbered_grant, cube_grant}
 use Rattle.xm_block.specs.Stores.{ids_of}
-use Rattle.rk_node.specs.Boxes.{Box, IsCleanBox}
+use Rattle.rk_node.specs.Boxes.{Box, IsCleanBox, home_of}
 use Rattle.ce_host.specs.declared.host.Host.{Host}
 use Rattle.ce_host.specs.declared.command.Command.TheVariants.{Freecube}
 use Rattle.ce_host.specs.declared.answer.Answer.TheVariants.{Freed}
@@ -41,8 +41,8 @@ use Rattle.ce_cube.proofs.Whole.{blocks-are-whole}
 use Rattle.ce_script.specs.Rounds.{RoundKind}
 use Rattle.ce_script.specs.Commands.{freecube_entries}
 use Rattle.ce_record.proofs.AtOnce as at_once
-use Rattle.ce_run.specs.UserStates.{HasUser, HasDone, free_host}
-use Rattle.ce_run.specs.Asking.{home_of, HasAsked, HasCube, HasDrained}
+use Rattle.ce_run.specs.UserStates.{HasUser, HasDone, home_host}
+use Rattle.ce_run.specs.Asking.{HasAsked, HasCube, HasDrained}
 use Rattle.ce_run.proofs.Peeking.{same-what}
 
 -- ---- what waits is taken away
@@ -190,7 +190,7 @@ module _ (before : MachineFacts) (crew : CrewFacts) (has : HasUser before crew.g
             ∙ ap (λ (state : MachineState). cube_held_by state crew.grant.user) (after-more behind.history (host_entry crew.grant.user whats.Freecube))
             ∙ left-own crew.grant.user (after behind.history)
 
-        pub freed-done : (kind : RoundKind) → HasDone kind before end crew.grant.user Freecube Freed (free_host host)
+        pub freed-done : (kind : RoundKind) → HasDone kind before end crew.grant.user Freecube Freed (home_host host)
         freed-done kind = record {
           all_entries = freecube_entries crew.grant.user;
           new_entries = freecube_entries crew.grant.user;

@@ -21,7 +21,7 @@ use Rattle.rk_mail.specs.Targets.{targets_of, bytes_of, with_bytes}
 use Rattle.rk_mail.specs.declared.talk.Hearing.{Hearing}
 use Rattle.rk_mail.specs.declared.talk.Hearing.TheVariants.{Posted}
 use Rattle.rk_mail.specs.declared.talk.Say.TheVariants as say
-use Rattle.rk_node.specs.Boxes.{Box, IsCleanBox}
+use Rattle.rk_node.specs.Boxes.{Box, IsCleanBox, home_of}
 use Rattle.ce_host.specs.declared.host.Host.{Host}
 use Rattle.ce_host.specs.Hosts.{message_for_place}
 use Rattle.ce_host.specs.declared.command.Command.TheVariants.{Send}
@@ -36,13 +36,13 @@ use Rattle.ce_cube.specs.Crews.{IsLawfulMachine, IsHostInStep, IsCrewInStep, Cre
 use Rattle.ce_daemon.specs.Peeks.{cube_grant}
 use Rattle.ce_cube.proofs.Hosts.{hosts-fit, hosts-send}
 use Rattle.ce_script.specs.Rounds.{RoundKind}
-use Rattle.ce_record.specs.Asked.{entry_reply}
+use Rattle.ce_record.specs.Requests.{entry_reply}
 use Rattle.ce_record.specs.Run.{IsNextCommand}
 use Rattle.ce_record.proofs.Moments.{map-none}
-use Rattle.ce_record.proofs.Asked.{asked}
+use Rattle.ce_record.proofs.Requests.{asked}
 use Rattle.ce_record.proofs.AtOnce.{no_store}
-use Rattle.ce_run.specs.UserStates.{HasDone, own_crew}
-use Rattle.ce_run.specs.Asking.{home_of, IsHostCall, HasHostCalled}
+use Rattle.ce_run.specs.UserStates.{HasDone, cube_crew}
+use Rattle.ce_run.specs.Asking.{IsHostCall, HasHostCalled}
 use Rattle.ce_run.proofs.StatesBehind.{answer-is, done-at-once, done-by, hearing-or}
 use Rattle.ce_run.proofs.Looking.{gone-on-with}
 
@@ -108,10 +108,10 @@ module _ (before : MachineFacts) (crew : CrewFacts) (machine : IsLawfulMachine b
       no_store kind before.parts before.history crew.grant.user step.held.cube step.held.held to bytes own-place (own ∙ none)
 
   pub nothing-done : (kind : RoundKind) (host : Host) → host ≡ crew.host → crew.host.store.blocks ≡ []
-      → HasDone kind before before crew.grant.user (Send to bytes) answers.NoStore (own_crew (record crew { host = host }))
+      → HasDone kind before before crew.grant.user (Send to bytes) answers.NoStore (cube_crew (record crew { host = host }))
   nothing-done kind host same empty =
-      subst (λ host. HasDone kind before before crew.grant.user (Send to bytes) answers.NoStore (own_crew (record crew { host = host }))) (sym same)
-      (done-at-once kind before crew.grant.user (Send to bytes) answers.NoStore (own_crew crew) machine (nothing-next kind empty) (refl, step))
+      subst (λ host. HasDone kind before before crew.grant.user (Send to bytes) answers.NoStore (cube_crew (record crew { host = host }))) (sym same)
+      (done-at-once kind before crew.grant.user (Send to bytes) answers.NoStore (cube_crew crew) machine (nothing-next kind empty) (refl, step))
 
   module _ (short : length bytes ≤ block_room) (batch : List (Place × Block)) (is : Some batch ≡ message_for_place to bytes crew.host.store.blocks) where
     abbrev goes : IsMessage to bytes crew.host.store.blocks batch
@@ -177,7 +177,7 @@ module _ (before : MachineFacts) (crew : CrewFacts) (machine : IsLawfulMachine b
       heard-posted hearing e = ap (hearing-or hearing) (sym e ∙ send-reply)
 
       module _ (rest : host.store.blocks ≡ drop 1 crew.host.store.blocks) (room : host.store.spare ≡ crew.host.store.spare + 1)
-          (other : Host) (regained : other ≡ record crew'.host { spare = Some [] }) where
+          (other : Host) (regained : other ≡ record crew'.host { spare_batch = Some [] }) where
         abbrev entry : Entry
         entry = host_entry crew.grant.user sent
 
@@ -195,8 +195,8 @@ module _ (before : MachineFacts) (crew : CrewFacts) (machine : IsLawfulMachine b
             })
             ∙ ap (drop 1) first.store_is
 
-        host-is : other ≡ record host { spare = Some [] }
-        host-is = regained ∙ ap (λ (c : CrewFacts). record c.host { spare = Some [] }) called.crew_is
+        host-is : other ≡ record host { spare_batch = Some [] }
+        host-is = regained ∙ ap (λ (c : CrewFacts). record c.host { spare_batch = Some [] }) called.crew_is
 
         left : other.store.blocks ≡ goes.others
         left = ap (λ (h : Host). h.store.blocks) host-is ∙ rest ∙ ap (drop 1) goes.blocks_are
@@ -213,10 +213,10 @@ module _ (before : MachineFacts) (crew : CrewFacts) (machine : IsLawfulMachine b
                 ap (λ (blocks : List Block). length blocks) left,
                 ap (λ (blocks : List Block). length blocks) goes.blocks_are,
               );
-          spare = ap (λ (h : Host). h.spare) host-is;
+          spare = ap (λ (h : Host). h.spare_batch) host-is;
         }
 
-        pub sent-done : (kind : RoundKind) → HasDone kind before behind crew.grant.user (Send to bytes) answers.Ok (own_crew (record crew' { host = other }))
+        pub sent-done : (kind : RoundKind) → HasDone kind before behind crew.grant.user (Send to bytes) answers.Ok (cube_crew (record crew' { host = other }))
         sent-done kind =
             done-by kind before behind (record crew { host = host }) (record crew' { host = other }) (host_entry crew.grant.user called.exchange.what ∷ []) (Send to bytes) answers.Ok
             (gone-on-with kind before behind (record crew { host = host }) crew' (calls.Say (say.Send 0 batch)) reply machine step.held may-send called other stands)

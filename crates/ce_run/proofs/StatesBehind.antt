@@ -18,7 +18,7 @@ use Rattle.ce_model.specs.Machine.{MachineParts, IsMachine, IsLawful, IsLawfulEn
 use Rattle.ce_model.proofs.AloneByEntries.{call_of-answer}
 use Rattle.ce_model.proofs.OneMore.{hoststore-more}
 use Rattle.ce_solo.proofs.Projection.Law.{after-more}
-use Rattle.rk_node.specs.Boxes.{Box}
+use Rattle.rk_node.specs.Boxes.{Box, home_of}
 use Rattle.ce_machine.specs.Meanings.{MachineFacts}
 use Rattle.ce_machine.specs.declared.call.Call.{Call}
 use Rattle.ce_machine.specs.declared.call.Reply.{Reply}
@@ -49,14 +49,14 @@ use Rattle.ce_model.specs.Literals.{host_entry}
 use Rattle.ce_machine.specs.declared.call.Call.TheVariants as calls
 use Rattle.rk_mail.specs.declared.talk.Say.TheVariants as say
 use Rattle.ce_cube.proofs.Hosts.{hosts-fit}
-use Rattle.ce_record.specs.Asked.{wants_cube, command_place}
+use Rattle.ce_record.specs.Requests.{wants_cube, command_place}
 use Rattle.ce_record.proofs.AtOnce.{no_place}
 use Rattle.ce_script.specs.Commands.{kill_reply}
-use Rattle.ce_record.specs.Asked.{command_request, entry_reply, hearing_reply}
+use Rattle.ce_record.specs.Requests.{command_request, entry_reply, hearing_reply}
 use Rattle.ce_record.specs.Run.{IsNextCommand}
-use Rattle.ce_record.proofs.Asked.{asked}
-use Rattle.ce_run.specs.UserStates.{HasDone, IsUserAt, free_host, own_crew, UserFacts}
-use Rattle.ce_run.specs.Asking.{home_of, IsHostCall, IsStartOrEnd, AreNodesInStep, HasHostCalled}
+use Rattle.ce_record.proofs.Requests.{asked}
+use Rattle.ce_run.specs.UserStates.{HasDone, IsUserAt, home_host, cube_crew, UserFacts}
+use Rattle.ce_run.specs.Asking.{IsHostCall, IsStartOrEnd, AreNodesInStep, HasHostCalled}
 
 -- ---- what stays
 
@@ -112,9 +112,9 @@ module _ (before behind : MachineFacts) (user : ℕ) (machine : IsLawfulMachine 
   peek-lawful = record { request = peek; fits = (within, refl); answer = refl }
 
   pub state-beside-peek : (facts : UserFacts) → IsUserAt before.parts before.history user facts → IsUserAt before.parts (before.history ++ host_entry user whats.Peek ∷ []) user facts
-  state-beside-peek (free_host host) state_is =
+  state-beside-peek (home_host host) state_is =
       (ap (λ state. cube_held_by state user) (after-more before.history (host_entry user whats.Peek)) ∙ state_is.0, state_is.1)
-  state-beside-peek (own_crew crew) state_is =
+  state-beside-peek (cube_crew crew) state_is =
       let aside = others-keep before.parts before.history crew.grant.number (cube_grant crew.grant) machine.within machine.lawful state_is.1.held (host_entry user whats.Peek)
       peek-lawful (inr refl) in (
         state_is.0,
@@ -216,7 +216,7 @@ module _ (before behind : MachineFacts) (crew crew' : CrewFacts) (call : Call Bo
 pub done-by : (kind : RoundKind) (before behind : MachineFacts) (crew crew' : CrewFacts) (made : List Entry) (command : Command) (answer : Answer)
     (goes : HasCrewGoneOn kind before behind crew crew' made) → (goes.all_entries ≡ made) ⊎ IsTrue (wants_cube command)
     → IsNextCommand kind before.parts before.history crew.grant.user command answer made
-    → HasDone kind before behind crew.grant.user command answer (own_crew crew')
+    → HasDone kind before behind crew.grant.user command answer (cube_crew crew')
 done-by kind before behind crew crew' made command answer goes whole next = record {
   all_entries = goes.all_entries;
   new_entries = made;
@@ -316,7 +316,7 @@ module _ (before behind : MachineFacts) (crew crew' : CrewFacts) (call : Call Bo
 
   pub told-done : (kind : RoundKind) (hearing : Hearing) (answer : Answer) → IsStartOrEnd host.inner → IsHearingOfEntry items called.exchange.what hearing → hearing_reply hearing ≡ Some answer
       → (command : Command) (id : BlockId) → command_request id command ≡ Some (cube_request host.inner)
-      → HasDone kind before behind crew.grant.user command answer (own_crew crew')
+      → HasDone kind before behind crew.grant.user command answer (cube_crew crew')
   told-done kind hearing answer of is told command id request =
       done-by kind before behind crew crew' (host_entry crew.grant.user called.exchange.what ∷ []) command answer
       (gone-on-kept before behind crew crew' call reply machine step.held host called kind step.host (told-keeps called.exchange.what (what-told of)))
@@ -355,9 +355,9 @@ if-ok (Err e) P Q f p = tt
 
 pub no-place-done : (kind : RoundKind) (before : MachineFacts) (crew : CrewFacts) (machine : IsLawfulMachine before) (step : IsCrewInStep before.parts before.history crew)
     (command : Command) (to : Place) → command_place command ≡ Some to → is_place crew.grant.dim to ≡ false
-    → HasDone kind before before crew.grant.user command answers.NoPlace (own_crew crew)
+    → HasDone kind before before crew.grant.user command answers.NoPlace (cube_crew crew)
 no-place-done kind before crew machine step command to names place =
-    done-at-once kind before crew.grant.user command answers.NoPlace (own_crew crew) machine
+    done-at-once kind before crew.grant.user command answers.NoPlace (cube_crew crew) machine
     (no_place kind before.parts before.history crew.grant.user step.held.cube step.held.held command to names
     (ap (λ (g : CubeGrant). is_place g.dim to) step.held.grant_is ∙ place))
     (refl, step)

@@ -10,7 +10,7 @@ use Rattle.ce_model.specs.Renaming.{entry_inward}
 use Rattle.ce_model.specs.Views.{view}
 use Rattle.ce_model.specs.Machine.{MachineParts, IsLawful, HasHeldCube, after, all_parcels, what_of_request, cube_request, IsFitting}
 use Rattle.ce_model.specs.Literals.{host_entry}
-use Rattle.rk_node.specs.Boxes.{Box, IsCleanBox}
+use Rattle.rk_node.specs.Boxes.{Box, IsCleanBox, home_of}
 use Rattle.ce_lock.specs.declared.limits.TheConstants.{HISTORY_LIMIT}
 use Rattle.ce_machine.specs.Meanings.{MachineFacts}
 use Rattle.ce_machine.specs.declared.call.Call.{Call}
@@ -20,10 +20,6 @@ use Rattle.ce_machine.specs.Replies.{IsReplyTo}
 use Rattle.ce_cube.specs.Boxes.{IsHeldAs}
 use Rattle.ce_cube.specs.Crews.{AreBoxesInStep, CrewFacts}
 use Rattle.ce_daemon.specs.Peeks.{cube_grant}
-
--- the home of a box
-abbrev pub home_of : Box → ℕ
-home_of box = box.node.home
 
 -- A user's host made this call, and the machine this reply: an entry more of the history.
 pub record HasAsked (old_machine new_machine : MachineFacts) (user : ℕ) (call : Call Box)

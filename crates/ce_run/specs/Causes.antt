@@ -23,7 +23,7 @@ HasRunToEnd (Some Write) = Unit {0}
 HasRunToEnd (Some other) = ⊥
 
 abbrev pub IsRunNoMemory : Option RunFault → Type 0
-IsRunNoMemory (Some (Memory fault)) = Unit {0}
+IsRunNoMemory (Some (Memory want)) = Unit {0}
 IsRunNoMemory other = ⊥
 
 -- a fault that ends the reading of a script

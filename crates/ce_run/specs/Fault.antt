@@ -12,7 +12,7 @@ status_of TooLong = 1
 status_of (Script fault) = 1
 status_of Usage = 2
 status_of Read = 3
-status_of (Memory fault) = 4
+status_of (Memory want) = 4
 status_of Write = 5
 
 -- what is written about a fault
@@ -23,4 +23,4 @@ line_of (Script fault) = codes "ce: line "
 line_of Usage = codes "ce: usage: ce [--serial] [--load N]" ++ line_feed ∷ []
 line_of Read = codes "ce: read fault" ++ line_feed ∷ []
 line_of Write = codes "ce: write fault" ++ line_feed ∷ []
-line_of (Memory fault) = codes "ce: " ++ (no_memory ++ line_feed ∷ [])
+line_of (Memory want) = codes "ce: " ++ (no_memory ++ line_feed ∷ [])

@@ -28,14 +28,26 @@ use Rattle.ce_model.specs.declared.limits.TheConstants.{SCRIPT_LIMIT}
 use Rattle.ce_run.specs.Causes.{status_of_end, IsServed, IsRunNoMemory, HasRunToEnd, HasReported}
 use Rattle.ce_run.specs.Fault.{line_of}
 
--- How a run ended: the status of each fault, the cause of each fault but Memory, which is free,
--- what was read, and what was written. It holds of a source and a sink that tell nothing, too.
-pub record HasEnded {S K : Type 0} (words : List (List ℕ)) (source : Reading S) (sink : Writing K)
-    (end : RunEnd) : Type 0 where
+-- What the end of a run says of its fault, and of the sink.
+pub record HasWritten {K : Type 0} (sink : Writing K) (end : RunEnd) : Type 0 where
   -- the status is the fault's, and 0 without one
   pub status : end.status ≡ status_of_end end.fault
   -- the record is there exactly with the statuses 0 and 5
   pub kept : IsSome end.kept ↔ HasRunToEnd end.fault
+  -- Write comes exactly where a write failed: the count of these rose, or stands at the end of its
+  -- type; with each other end it stands
+  pub write : end.fault ≡ Some run_fault.Write
+      → HasRisen (sink.faults sink.old) (sink.faults sink.new)
+  pub no_write_failed : (end.fault ≡ Some run_fault.Write)
+      ⊎ (sink.faults sink.new ≡ sink.faults sink.old)
+  -- with the statuses 1 to 4 the sink stays as it was
+  pub unwritten : HasRunToEnd end.fault ⊎ (sink.new ≡ sink.old)
+
+-- How a run ended: the status of each fault, the cause of each fault but Memory, which is free,
+-- what was read, and what was written. It holds of a source and a sink that tell nothing, too.
+pub record HasEnded {S K : Type 0} (words : List (List ℕ)) (source : Reading S) (sink : Writing K)
+    (end : RunEnd) : Type 0 where
+  pub written : HasWritten sink end
   -- Usage comes exactly where the words are refused or ask for threads; and then nothing is read
   pub usage : end.fault ≡ Some run_fault.Usage → ¬ IsServed words
   pub served : IsServed words ⊎ ((end.fault ≡ Some run_fault.Usage) ⊎ IsRunNoMemory end.fault)
@@ -57,19 +69,11 @@ pub record HasEnded {S K : Type 0} (words : List (List ℕ)) (source : Reading S
       → IsAtEnd (source.left source.new) × (first_script_fault bytes ≡ Some fault)
   pub faultless : HasRunToEnd end.fault → (line_of_words words).load ≡ None
       → IsAtEnd (source.left source.new) × (first_script_fault bytes ≡ None)
-  -- Read comes exactly where a read failed: its count rose, or stands at the end of its type; with
-  -- each other end it stands
+  -- Read comes exactly where a read failed, as Write does where a write failed
   pub read : end.fault ≡ Some run_fault.Read
       → HasRisen (source.faults source.old) (source.faults source.new)
   pub no_read_failed : (end.fault ≡ Some run_fault.Read)
       ⊎ (source.faults source.new ≡ source.faults source.old)
-  -- so does Write where a write failed
-  pub write : end.fault ≡ Some run_fault.Write
-      → HasRisen (sink.faults sink.old) (sink.faults sink.new)
-  pub no_write_failed : (end.fault ≡ Some run_fault.Write)
-      ⊎ (sink.faults sink.new ≡ sink.faults sink.old)
-  -- with the statuses 1 to 4 the sink stays as it was
-  pub unwritten : HasRunToEnd end.fault ⊎ (sink.new ≡ sink.old)
 
 -- the script of a run: the one that the source was read as, to its end; or the load of a seed, and
 -- then the source stays as it was
@@ -133,19 +137,13 @@ pub record HasReadScript {S : Type 0} (source : Reading S)
 -- text was appended; or memory was wanting before anything was written
 pub record HasFinished {K : Type 0} (script : Script) (seed : Option ℕ) (sink : Writing K)
     (end : RunEnd) : Type 0 where
-  pub status : end.status ≡ status_of_end end.fault
-  pub kept : IsSome end.kept ↔ HasRunToEnd end.fault
+  pub written : HasWritten sink end
   pub legal : IfSome end.kept (IsLegal serial script)
   pub serial : IfSome end.kept (IsSerial script)
   pub reported : IfSome end.kept
       (λ run_record. HasReported end.fault (run_text seed script run_record)
       (sink.written sink.old) (sink.written sink.new))
   pub fault : HasRunToEnd end.fault ⊎ IsRunNoMemory end.fault
-  pub write : end.fault ≡ Some run_fault.Write
-      → HasRisen (sink.faults sink.old) (sink.faults sink.new)
-  pub no_write_failed : (end.fault ≡ Some run_fault.Write)
-      ⊎ (sink.faults sink.new ≡ sink.faults sink.old)
-  pub unwritten : HasRunToEnd end.fault ⊎ (sink.new ≡ sink.old)
 
 -- the three clauses of a run together
 pub record IsPromised {S K : Type 0} (words : List (List ℕ)) (source : Reading S)

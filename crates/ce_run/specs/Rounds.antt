@@ -20,11 +20,13 @@ use Rattle.ce_daemon.specs.Peeks.{cube_grant}
 use Rattle.ce_script.specs.Rounds.{RoundKind, joined_lists}
 use Rattle.ce_script.specs.Commands.{host_take}
 use Rattle.ce_record.specs.CubeRounds.{IsRoundOf}
-use Rattle.ce_run.specs.UserStates.{HasCrew, HasDone, own_crew}
+use Rattle.ce_run.specs.UserStates.{HasCrew, HasDone, cube_crew}
 
 -- a crew's host allowed so many dispatches
 abbrev pub HasAllowed : RoundKind → MachineFacts → MachineFacts → CrewFacts → CrewFacts → ℕ → Type 0
-HasAllowed kind old_machine new_machine crew crew' count = HasCrewGoneOn kind old_machine new_machine crew crew' (host_entry crew.grant.user (Arm count) ∷ [])
+HasAllowed kind old_machine new_machine crew crew' count =
+    HasCrewGoneOn kind old_machine new_machine crew crew'
+    (host_entry crew.grant.user (Arm count) ∷ [])
 
 -- a crew's host looked, and found this
 pub record HasLooked (kind : RoundKind) (old_machine new_machine : MachineFacts)
@@ -70,4 +72,4 @@ HasEndedCommand kind command armed_machine new_machine crew crew' answer =
     → HasCrew old_machine first_crew
     → HasAllowed kind old_machine armed_machine first_crew crew count
     → HasDone kind old_machine new_machine first_crew.grant.user (command count) answer
-    (own_crew crew')
+    (cube_crew crew')

@@ -12,7 +12,7 @@ use Rattle.ce_host.specs.declared.host.Host.{Host}
 use Rattle.ce_host.specs.declared.command.Command.{Command}
 use Rattle.ce_host.specs.declared.answer.Answer.{Answer}
 use Rattle.ce_script.specs.Rounds.{RoundKind}
-use Rattle.ce_record.specs.Asked.{wants_cube, command_request}
+use Rattle.ce_record.specs.Requests.{wants_cube, command_request}
 use Rattle.ce_record.specs.Run.{IsNextCommand}
 use Rattle.ce_run.specs.declared.user_state.UserState.{UserState}
 use Rattle.ce_run.specs.declared.user_state.UserState.TheVariants.{HomeHost, CubeCrew}
@@ -20,20 +20,20 @@ use Rattle.ce_run.specs.declared.user_state.UserState.TheVariants.{HomeHost, Cub
 -- what a user has between commands, as the laws see it: a host without a cube, or the crew of its
 -- cube
 pub data UserFacts : Type 0 where
-  free_host : Host → UserFacts
-  own_crew : CrewFacts → UserFacts
+  home_host : Host → UserFacts
+  cube_crew : CrewFacts → UserFacts
 
 -- so is seen what a user has on one thread
 abbrev pub user_facts : UserState → UserFacts
-user_facts (HomeHost host) = free_host host
-user_facts (CubeCrew crew) = own_crew (serial_facts crew)
+user_facts (HomeHost host) = home_host host
+user_facts (CubeCrew crew) = cube_crew (serial_facts crew)
 
 -- behind a history a user has this: it holds no cube and its host is at home, or its cube's crew is
 -- in step
 abbrev pub IsUserAt : MachineParts → List Entry → ℕ → UserFacts → Type 0
-IsUserAt parts history user (free_host host) =
+IsUserAt parts history user (home_host host) =
     (cube_held_by (after history) user ≡ None) × IsHostAtHome user host
-IsUserAt parts history user (own_crew crew) =
+IsUserAt parts history user (cube_crew crew) =
     (crew.grant.user ≡ user) × IsCrewInStep parts history crew
 
 -- so is a user's state on one thread
@@ -76,7 +76,8 @@ pub record HasDone (kind : RoundKind) (old_machine new_machine : MachineFacts) (
   pub mix : IsMix kind user all_entries new_entries
   pub whole : (all_entries ≡ new_entries) ⊎ IsTrue (wants_cube command)
   pub lawful : IsLawful old_machine.parts new_machine.history
-  pub next : IsNextCommand kind old_machine.parts old_machine.history user command answer new_entries
+  pub next : IsNextCommand kind old_machine.parts old_machine.history user command answer
+      new_entries
   pub state_is : IsUserAt old_machine.parts new_machine.history user facts
 
 -- each command that asks for this call was carried out, and its user's crew is this
@@ -84,4 +85,4 @@ abbrev pub HasToldHost : RoundKind → MachineFacts → MachineFacts → ℕ →
     → Type 0
 HasToldHost kind old_machine new_machine user call answer crew =
     (command : Command) (id : BlockId) → command_request id command ≡ Some (cube_request call)
-    → HasDone kind old_machine new_machine user command answer (own_crew crew)
+    → HasDone kind old_machine new_machine user command answer (cube_crew crew)

@@ -2,9 +2,9 @@
 ghost use Rattle.std.specs.Prelude.{◌≡◌, IfOk};
 ghost use Rattle.ce_model.specs.declared.topology.TheConstants.{HOST};
 ghost use Rattle.ce_machine.specs.Requests.{IsFittingCall};
-ghost use Rattle.rk_node.specs.Boxes.{IsCleanBox};
+ghost use Rattle.rk_node.specs.Boxes.{IsCleanBox, home_of};
 ghost use Rattle.ce_cube.specs.Crews.{IsLawfulMachine, serial_facts};
-ghost use Rattle.ce_run.specs.Asking.{home_of, HasAsked, HasHostCalled, AreNodesInStep, IsHostCall};
+ghost use Rattle.ce_run.specs.Asking.{HasAsked, HasHostCalled, AreNodesInStep, IsHostCall};
 
 use ce_cube::SerialCrew;
 use ce_lock::{Kept, Who};

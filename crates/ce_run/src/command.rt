@@ -47,7 +47,7 @@ pub fn run_command<R: Threads + Sync, S: Source, K: Sink, E: Sink, G: Gate>(
         Ok(words) => top(rt, alloc, words.as_slice(), source, sink, gate),
         Err(error) => refusal(words_fault(&error)),
     };
-    tell(end.fault, errors);
+    tell_fault(end.fault, errors);
     end.status
 }
 
@@ -66,7 +66,7 @@ fn words_fault(error: &io::Error) -> RunFault
 
 /// Writes the line of a fault. Where even this can't be written, the status still tells of the
 /// fault.
-fn tell<E: Sink>(fault: Option<RunFault>, errors: &mut E)
+fn tell_fault<E: Sink>(fault: Option<RunFault>, errors: &mut E)
     ensures { IsFaultTold fault (writing E.written E.faults errors.old errors.new) }
 {
     if let Some(fault) = fault {

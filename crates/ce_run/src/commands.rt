@@ -6,25 +6,25 @@ ghost use Rattle.ce_host.specs.declared.command.Command.TheVariants.{Freecube};
 ghost use Rattle.ce_script.specs.Bounds.{IsCommandWithin};
 ghost use Rattle.ce_script.specs.Rounds.{serial};
 ghost use Rattle.ce_cube.specs.Crews.{serial_facts};
-ghost use Rattle.ce_run.specs.UserStates.{HasDone, HasReadyCrew, HasReadyUser, HasUser, IsUserStateAt, own_crew, user_facts};
+ghost use Rattle.ce_run.specs.UserStates.{HasDone, HasReadyCrew, HasReadyUser, HasUser, IsUserStateAt, cube_crew, user_facts};
 
 mod cubes;
+mod looking;
 mod running;
 mod sending;
-mod telling;
 
 use crate::user_state::UserState;
 use ce_cube::SerialCrew;
 use ce_host::{Answer, Command, Host};
 use ce_machine::Machine;
 use ce_model::NoMemory;
-use cubes::{free_cube, get_cube, peek};
+use cubes::{freecube, getcube, peek};
+use looking::status;
 use rk_node::NodeBox;
-use running::{allow, receive, run};
+use running::{allow, recv, run};
 use rv_image::Image;
-use sending::{end, send, start};
+use sending::{kill, send, spawn};
 use std::alloc::Global;
-use telling::status;
 
 /// Carries out a command of a user: what it is answered, and what the user has then. `NoMemory` may
 /// come at any time.
@@ -64,7 +64,7 @@ fn carry_out_free(
         HasDone serial machine.old machine.new user command.now outcome.1 (user_facts outcome.0)) }
 {
     match command {
-        Command::Getcube(dim) => get_cube(alloc, machine, images, user, host, *dim),
+        Command::Getcube(dim) => getcube(alloc, machine, images, user, host, *dim),
         Command::Peek => {
             let answer = peek(alloc, machine, user)?;
             Ok((UserState::HomeHost(host), answer))
@@ -88,7 +88,7 @@ fn carry_out_held(
         (user_facts outcome.0)) }
 {
     if let Command::Freecube = command {
-        return free_cube(alloc, machine, crew);
+        return freecube(alloc, machine, crew);
     }
     let answer = carry_out_in_cube(alloc, machine, images, &mut crew, command)?;
     Ok((UserState::CubeCrew(crew), answer))
@@ -107,13 +107,13 @@ fn carry_out_in_cube(
     requires stays { ¬ (command.now ≡ Freecube) }
     ensures { IfOk result (λ answer.
         HasDone serial machine.old machine.new crew.old.grant.user command.now answer
-        (own_crew (serial_facts crew.new))) }
+        (cube_crew (serial_facts crew.new))) }
 {
     match command {
         Command::Getcube(_) => Ok(Answer::Held),
         Command::Peek => peek(alloc, machine, crew.grant.user),
-        Command::Spawn(image, to) => start(alloc, machine, crew, *image, *to),
-        Command::Kill(to) => end(alloc, machine, crew, *to),
+        Command::Spawn(image, to) => spawn(alloc, machine, crew, *image, *to),
+        Command::Kill(to) => kill(alloc, machine, crew, *to),
         Command::Send(to, bytes) => send(alloc, machine, crew, *to, bytes),
         Command::Run(count) => {
             allow(alloc, machine, crew, *count)?;
@@ -121,7 +121,7 @@ fn carry_out_in_cube(
         }
         Command::Recv(count) => {
             allow(alloc, machine, crew, *count)?;
-            receive(alloc, machine, images, crew)
+            recv(alloc, machine, images, crew)
         }
         Command::Dump(place) => Ok(status(crew, *place)),
         Command::Trace => Ok(Answer::Entries(crew.entries)),

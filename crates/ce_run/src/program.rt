@@ -90,7 +90,7 @@ fn load_of_words(alloc: Global, words: &[String]) -> Result<Option<u32>, RunFaul
             },
         ) => Ok(load),
         Ok(_) | Err(CommandLineError::Usage) => Err(RunFault::Usage),
-        Err(CommandLineError::Memory(fault)) => Err(RunFault::Memory(fault)),
+        Err(CommandLineError::Memory(want)) => Err(RunFault::Memory(want)),
     }
 }
 
@@ -113,7 +113,7 @@ fn run_load<K: Sink>(alloc: Global, seed: u32, sink: &mut K) -> RunEnd
 {
     let script = match make(alloc, seed) {
         Ok(script) => script,
-        Err(fault) => return refusal(RunFault::Memory(fault)),
+        Err(want) => return refusal(RunFault::Memory(want)),
     };
     run_script(alloc, &script, Some(seed), sink)
 }
@@ -129,12 +129,12 @@ fn read_source<S: Source>(alloc: Global, source: &mut S) -> Result<LimitedScript
         Ok(text) => text,
         Err(ReadError::TooLong) => return Err(RunFault::TooLong),
         Err(ReadError::Read) => return Err(RunFault::Read),
-        Err(ReadError::Memory(fault)) => return Err(RunFault::Memory(fault)),
+        Err(ReadError::Memory(want)) => return Err(RunFault::Memory(want)),
     };
     match read_script(alloc, text.as_slice()) {
         Ok(script) => Ok(script),
         Err(fault) => match fault.kind {
-            ScriptKind::Memory(fault) => Err(RunFault::Memory(fault)),
+            ScriptKind::Memory(want) => Err(RunFault::Memory(want)),
             _ => Err(RunFault::Script(fault)),
         },
     }
@@ -152,7 +152,7 @@ fn run_script<K: Sink>(
 {
     match record_and_text(alloc, limited_script, seed) {
         Ok((run_record, text)) => write_text(run_record, text, sink),
-        Err(fault) => refusal(RunFault::Memory(fault)),
+        Err(want) => refusal(RunFault::Memory(want)),
     }
 }
 

@@ -1,25 +1,22 @@
 //! The run of a whole script on one thread.
-ghost use Rattle.std.specs.Prelude.{◌≡◌, ℕ, ◌<◌, ◌≤◌, ◌^◌, List, [], Some, IfOk, OnOk, length, map};
-ghost use Rattle.ce_model.specs.Limits.{greatest_dim, greatest_users};
+ghost use Rattle.std.specs.Prelude.{◌≡◌, ℕ, ◌<◌, ◌≤◌, List, [], Some, IfOk, OnOk, length, map};
+ghost use Rattle.ce_model.specs.Limits.{greatest_users};
 ghost use Rattle.ce_model.specs.Machine.{IsMachine};
-ghost use Rattle.ce_daemon.specs.Boxes.{AreBoxes};
-ghost use Rattle.rk_node.specs.Boxes.{IsCleanBox};
 ghost use Rattle.ce_script.specs.declared.script.Script.{Script};
 ghost use Rattle.ce_script.specs.Bounds.{IsCommandWithin};
 ghost use Rattle.ce_script.specs.Doings.{Doing};
 ghost use Rattle.ce_script.specs.Legal.{IsLegal, machine_of};
 ghost use Rattle.ce_script.specs.Rounds.{serial};
 ghost use Rattle.ce_script.specs.Serial.{IsSerial};
-ghost use Rattle.ce_run.specs.Asking.{home_of};
 ghost use Rattle.ce_run.specs.Script.{AreFreeStates, HasGoneFurther, IsRunBehind};
 
 use crate::commands::carry_out;
 use crate::user_state::UserState;
 use ce_host::{Command, Host};
 use ce_machine::Machine;
-use ce_model::{Bytes, GREATEST_BLOCKS, NoMemory};
+use ce_model::{Bytes, NoMemory};
 use ce_script::{LimitedScript, Name, NamedImage, Record, UserRecord};
-use rk_node::NodeBox;
+use rk_node::{NodeBox, node_boxes};
 use rv_image::Image;
 use sqlite_items::Items;
 use std::alloc::Global;
@@ -122,7 +119,7 @@ fn open_machine(
 {
     let script = &limited_script.script;
     let images = copy_images(alloc, script.images.as_slice())?;
-    let boxes = open_boxes(alloc, dim)?;
+    let boxes = node_boxes(alloc, dim)?;
     Machine::new(alloc, dim, script.users.len() as u32, images, boxes)
 }
 
@@ -136,20 +133,6 @@ fn copy_images(alloc: Global, images: &[NamedImage]) -> Result<Vec<Image>, NoMem
         copies.push(named_image.image.copy(alloc)?)?;
     }
     Ok(copies)
-}
-
-/// The clean boxes of a machine's nodes, by number.
-#[tactic(auto, using(ce_model::specs::Limits::greatest_dim_lem, ce_model::specs::Limits::greatest_blocks_lem, ce_model::specs::Limits::home_blocks_lem))]
-fn open_boxes(alloc: Global, dim: u32) -> Result<Vec<NodeBox>, NoMemory>
-    requires { dim ≤ greatest_dim }
-    ensures { IfOk result (λ boxes.
-        AreBoxes home_of IsCleanBox (2 ^ dim) (λ node. node) boxes.items) }
-{
-    let mut boxes = Vec::new(alloc);
-    for node in 0..1_u32 << dim {
-        boxes.push(NodeBox::new(alloc, node, GREATEST_BLOCKS)?)?;
-    }
-    Ok(boxes)
 }
 
 /// What so many users have, who hold no cube.

@@ -5,8 +5,8 @@ mod rows;
 
 use super::*;
 use ce_gate::OpenGate;
-use ce_io::{MemSink, MemSource};
-use ce_model::SCRIPT_LIMIT;
+use ce_io::{MemSink, MemSource, PIECE};
+use ce_model::{HOME_BLOCKS, SCRIPT_LIMIT, WINDOW_BASE, WINDOW_SIZE};
 use rows::{
     ANSWERS, DEAD, ENDLESS, GONE, HELLO, HELLO_REPORT, HELLO_SCRIPT, HELLO_SPAWN, HELLO_START,
     HELLO_WORDS, IMAGE_AS_BYTES, JUMPS, LONGEST_POLLER, NO_FIT, NO_STATEMENTS, NO_USERS,
@@ -21,7 +21,7 @@ use std::thread::Threads;
 
 /// What a line of words does to a script.
 #[derive(Drop)]
-struct Ran {
+struct Outcome {
     status: u8,
     report_text: Vec<u8>,
     fault_line: Vec<u8>,
@@ -38,7 +38,7 @@ struct Ends<'a> {
 const SOUND: Ends<'static> = Ends {
     failing_read: &[],
     failing_write: &[],
-    greatest_piece: 4096,
+    greatest_piece: PIECE,
 };
 
 /// The whole program but for its `main`.
@@ -48,7 +48,7 @@ fn run_line<R: Threads + Sync>(
     line: &[&str],
     script: &[u8],
     ends: Ends,
-) -> Result<Ran, Fail>
+) -> Result<Outcome, Fail>
     requires { 1 ≤ ends.greatest_piece }
 {
     let words = words_of(alloc, line)?;
@@ -57,7 +57,7 @@ fn run_line<R: Threads + Sync>(
     let writes = Vec::from_slice(alloc, ends.failing_write)?;
     let mut source = MemSource::new(bytes, reads, ends.greatest_piece);
     let mut sink = memory_sink(alloc, writes, ends.greatest_piece)?;
-    let mut errors = memory_sink(alloc, Vec::new(alloc), 4096)?;
+    let mut errors = memory_sink(alloc, Vec::new(alloc), PIECE)?;
     let status = run_command(
         rt,
         alloc,
@@ -67,7 +67,7 @@ fn run_line<R: Threads + Sync>(
         &mut errors,
         &OpenGate,
     );
-    Ok(Ran {
+    Ok(Outcome {
         status,
         report_text: Vec::from_slice(alloc, sink.bytes())?,
         fault_line: Vec::from_slice(alloc, errors.bytes())?,
@@ -92,7 +92,7 @@ fn memory_sink(
     Ok(MemSink::new(alloc, 262_144, failing_calls, greatest_piece).map_err(|_| "no memory")?)
 }
 
-fn run_script<R: Threads + Sync>(rt: &R, alloc: Global, script: &str) -> Result<Ran, Fail> {
+fn run_script<R: Threads + Sync>(rt: &R, alloc: Global, script: &str) -> Result<Outcome, Fail> {
     run_line(rt, alloc, &["--serial"], script.as_bytes(), SOUND)
 }
 
@@ -111,15 +111,15 @@ fn text(alloc: Global, parts: &[(&str, u32)]) -> Result<String, Fail> {
 fn holds<R: Threads + Sync + Abort>(rt: &R, alloc: Global, row: &Row) -> Result<(), Fail> {
     let script = row.script.concat(alloc)?;
     let report = row.report.concat(alloc)?;
-    let ran = run_script(rt, alloc, script.as_str())?;
-    assert_eq!(rt; ran.status, 0, "{}", row.title);
+    let outcome = run_script(rt, alloc, script.as_str())?;
+    assert_eq!(rt; outcome.status, 0, "{}", row.title);
     assert_eq!(rt;
-        ran.report_text.as_slice(),
+        outcome.report_text.as_slice(),
         report.as_bytes(),
         "{}",
         row.title
     );
-    assert_eq!(rt; ran.fault_line.len(), 0, "{}", row.title);
+    assert_eq!(rt; outcome.fault_line.len(), 0, "{}", row.title);
     Ok(())
 }
 
@@ -215,10 +215,10 @@ fn polling(rt: HostRuntime) -> Result<(), Fail> {
         host spawn 0 poll 0.0 ok\nhost arm 100\nnode 0 take 0 0 - start 0 poll\n";
     let tail = "node 0 take 1 0 0 spent\nhost look spent\nend\n";
     let poll = "node 0 take 1 0 0 poll 0\n";
-    let ran = run_script(&rt, rt.alloc(), script)?;
+    let outcome = run_script(&rt, rt.alloc(), script)?;
     let want = text(rt.alloc(), &[(head, 1), (poll, 99), (tail, 1)])?;
-    assert_eq!(rt; ran.status, 0);
-    assert_eq!(rt; ran.report_text.as_slice(), want.as_bytes());
+    assert_eq!(rt; outcome.status, 0);
+    assert_eq!(rt; outcome.report_text.as_slice(), want.as_bytes());
     Ok(())
 }
 
@@ -232,7 +232,7 @@ fn no_store(rt: HostRuntime) -> Result<(), Fail> {
     )?;
     let head = "machine 0\nuser a\ngetcube 0\n= granted mask 0 base 0\n";
     let refused = "send 0 7 -\n= no store\ncube 0 user a dim 0 mask 0 base 0\n";
-    let ran = run_script(&rt, alloc, script.as_str())?;
+    let outcome = run_script(&rt, alloc, script.as_str())?;
     let mut want = text(
         alloc,
         &[(head, 1), ("send 0 7 -\n= ok\n", 32), (refused, 1)],
@@ -242,8 +242,8 @@ fn no_store(rt: HostRuntime) -> Result<(), Fail> {
         want.push_str(entry.as_str())?;
     }
     want.push_str("end\n")?;
-    assert_eq!(rt; ran.status, 0);
-    assert_eq!(rt; ran.report_text.as_slice(), want.as_bytes());
+    assert_eq!(rt; outcome.status, 0);
+    assert_eq!(rt; outcome.report_text.as_slice(), want.as_bytes());
     Ok(())
 }
 
@@ -263,15 +263,15 @@ fn store(rt: HostRuntime) -> Result<(), Fail> {
     let tail =
         "node 0 note 0 0\nnode 0 note 0 2149580800\nnode 0 take 0 1 - idle\nhost look quiet\nend\n";
     let mut want = text(alloc, &[(head, 1)])?;
-    for window in 0..32_u64 {
-        let address = 0x8000_0000 + 0x1_0000 * window;
+    for window in 0..HOME_BLOCKS {
+        let address = WINDOW_BASE + WINDOW_SIZE * window;
         let entry = format!(in alloc; "node 0 note 0 {address}\n")?;
         want.push_str(entry.as_str())?;
     }
     want.push_str(tail)?;
-    let ran = run_script(&rt, alloc, script)?;
-    assert_eq!(rt; ran.status, 0);
-    assert_eq!(rt; ran.report_text.as_slice(), want.as_bytes());
+    let outcome = run_script(&rt, alloc, script)?;
+    assert_eq!(rt; outcome.status, 0);
+    assert_eq!(rt; outcome.report_text.as_slice(), want.as_bytes());
     Ok(())
 }
 
@@ -287,9 +287,9 @@ fn load(rt: HostRuntime) -> Result<(), Fail> {
         &["--serial", "--load=00"],
     ];
     for line in lines {
-        let ran = run_line(&rt, rt.alloc(), line, b"not read".as_slice(), SOUND)?;
-        assert_eq!(rt; ran.status, 0);
-        assert_eq!(rt; ran.report_text.as_slice(), LOAD_0.as_bytes());
+        let outcome = run_line(&rt, rt.alloc(), line, b"not read".as_slice(), SOUND)?;
+        assert_eq!(rt; outcome.status, 0);
+        assert_eq!(rt; outcome.report_text.as_slice(), LOAD_0.as_bytes());
     }
     Ok(())
 }
@@ -312,10 +312,10 @@ fn usage(rt: HostRuntime) -> Result<(), Fail> {
     let alloc = rt.alloc();
     let script = HELLO_SCRIPT.concat(alloc)?;
     for line in lines {
-        let ran = run_line(&rt, alloc, line, script.as_bytes(), SOUND)?;
-        assert_eq!(rt; ran.status, 2);
-        assert_eq!(rt; ran.report_text.len(), 0);
-        assert_eq!(rt; ran.fault_line.as_slice(), fault_line);
+        let outcome = run_line(&rt, alloc, line, script.as_bytes(), SOUND)?;
+        assert_eq!(rt; outcome.status, 2);
+        assert_eq!(rt; outcome.report_text.len(), 0);
+        assert_eq!(rt; outcome.fault_line.as_slice(), fault_line);
     }
     Ok(())
 }
@@ -344,11 +344,11 @@ fn no_script(rt: HostRuntime) -> Result<(), Fail> {
         ),
     ];
     for (script, fault_line) in rows {
-        let ran = run_script(&rt, alloc, script)?;
-        assert_eq!(rt; ran.status, 1, "{script}");
-        assert_eq!(rt; ran.report_text.len(), 0, "{script}");
+        let outcome = run_script(&rt, alloc, script)?;
+        assert_eq!(rt; outcome.status, 1, "{script}");
+        assert_eq!(rt; outcome.report_text.len(), 0, "{script}");
         assert_eq!(rt;
-            ran.fault_line.as_slice(),
+            outcome.fault_line.as_slice(),
             fault_line.as_bytes(),
             "{script}"
         );
@@ -365,22 +365,25 @@ fn script_limits(rt: HostRuntime) -> Result<(), Fail> {
     for _ in head.len()..SCRIPT_LIMIT {
         script.push('#')?;
     }
-    let ran = run_script(&rt, alloc, script.as_str())?;
-    assert_eq!(rt; ran.status, 0);
-    assert_eq!(rt; ran.report_text.as_slice(), b"machine 0\nend\n".as_slice());
-    script.push('#')?;
-    let ran = run_script(&rt, alloc, script.as_str())?;
-    assert_eq!(rt; ran.status, 1);
-    assert_eq!(rt; ran.report_text.len(), 0);
+    let outcome = run_script(&rt, alloc, script.as_str())?;
+    assert_eq!(rt; outcome.status, 0);
     assert_eq!(rt;
-        ran.fault_line.as_slice(),
+        outcome.report_text.as_slice(),
+        b"machine 0\nend\n".as_slice()
+    );
+    script.push('#')?;
+    let outcome = run_script(&rt, alloc, script.as_str())?;
+    assert_eq!(rt; outcome.status, 1);
+    assert_eq!(rt; outcome.report_text.len(), 0);
+    assert_eq!(rt;
+        outcome.fault_line.as_slice(),
         b"ce: script too long\n".as_slice()
     );
     Ok(())
 }
 
 /// Runs hello, with so many words of zero behind its own.
-fn run_with_zeros<R: Threads + Sync>(rt: &R, alloc: Global, zeros: u32) -> Result<Ran, Fail> {
+fn run_with_zeros<R: Threads + Sync>(rt: &R, alloc: Global, zeros: u32) -> Result<Outcome, Fail> {
     let script = text(
         alloc,
         &[
@@ -399,13 +402,13 @@ fn run_with_zeros<R: Threads + Sync>(rt: &R, alloc: Global, zeros: u32) -> Resul
 fn an_image_of_the_greatest_length(rt: HostRuntime) -> Result<(), Fail> {
     let alloc = rt.alloc();
     let report = HELLO_REPORT.concat(alloc)?;
-    let ran = run_with_zeros(&rt, alloc, 30_715)?;
-    assert_eq!(rt; ran.status, 0);
-    assert_eq!(rt; ran.report_text.as_slice(), report.as_bytes());
-    let ran = run_with_zeros(&rt, alloc, 30_716)?;
-    assert_eq!(rt; ran.status, 1);
+    let outcome = run_with_zeros(&rt, alloc, 30_715)?;
+    assert_eq!(rt; outcome.status, 0);
+    assert_eq!(rt; outcome.report_text.as_slice(), report.as_bytes());
+    let outcome = run_with_zeros(&rt, alloc, 30_716)?;
+    assert_eq!(rt; outcome.status, 1);
     assert_eq!(rt;
-        ran.fault_line.as_slice(),
+        outcome.fault_line.as_slice(),
         b"ce: line 2: bad image\n".as_slice()
     );
     Ok(())
@@ -427,9 +430,9 @@ fn a_turn_of_the_most_notes(rt: HostRuntime) -> Result<(), Fail> {
         alloc,
         &[(head, 1), ("node 0 note 0 42\n", 4_096), (tail, 1)],
     )?;
-    let ran = run_script(&rt, alloc, script)?;
-    assert_eq!(rt; ran.status, 0);
-    assert_eq!(rt; ran.report_text.as_slice(), want.as_bytes());
+    let outcome = run_script(&rt, alloc, script)?;
+    assert_eq!(rt; outcome.status, 0);
+    assert_eq!(rt; outcome.report_text.as_slice(), want.as_bytes());
     Ok(())
 }
 
@@ -441,21 +444,30 @@ fn faults(rt: HostRuntime) -> Result<(), Fail> {
     let broken_source = Ends {
         failing_read: &[0],
         failing_write: &[],
-        greatest_piece: 4096,
+        greatest_piece: PIECE,
     };
-    let ran = run_line(&rt, alloc, &["--serial"], script.as_bytes(), broken_source)?;
-    assert_eq!(rt; ran.status, 3);
-    assert_eq!(rt; ran.report_text.len(), 0);
-    assert_eq!(rt; ran.fault_line.as_slice(), b"ce: read fault\n".as_slice());
+    let outcome = run_line(&rt, alloc, &["--serial"], script.as_bytes(), broken_source)?;
+    assert_eq!(rt; outcome.status, 3);
+    assert_eq!(rt; outcome.report_text.len(), 0);
+    assert_eq!(rt;
+        outcome.fault_line.as_slice(),
+        b"ce: read fault\n".as_slice()
+    );
     let broken_sink = Ends {
         failing_read: &[],
         failing_write: &[2],
         greatest_piece: 8,
     };
-    let ran = run_line(&rt, alloc, &["--serial"], script.as_bytes(), broken_sink)?;
-    assert_eq!(rt; ran.status, 5);
-    assert_eq!(rt; ran.report_text.as_slice(), b"machine 0\nuser a".as_slice());
-    assert_eq!(rt; ran.fault_line.as_slice(), b"ce: write fault\n".as_slice());
+    let outcome = run_line(&rt, alloc, &["--serial"], script.as_bytes(), broken_sink)?;
+    assert_eq!(rt; outcome.status, 5);
+    assert_eq!(rt;
+        outcome.report_text.as_slice(),
+        b"machine 0\nuser a".as_slice()
+    );
+    assert_eq!(rt;
+        outcome.fault_line.as_slice(),
+        b"ce: write fault\n".as_slice()
+    );
     Ok(())
 }
 

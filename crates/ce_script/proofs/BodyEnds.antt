@@ -13,9 +13,9 @@ use Rattle.ce_text.specs.Bytes.{is_line_feed}
 use Rattle.ce_text.specs.Line.{cut_parts, lines_text}
 use Rattle.ce_script.specs.declared.reader.rest.Rest.{Rest}
 use Rattle.ce_script.specs.declared.reader.rest.Body.{Body}
-use Rattle.ce_script.specs.Lines.{Line, rest_size}
+use Rattle.ce_script.specs.Lines.{Line, numbered_lines, rest_size}
 use Rattle.ce_script.specs.Statements.{is_end, found_body}
-use Rattle.ce_script.specs.ReadLines.{texts_left, numbered_lines, rest_text, lines_left, reach_of, IsFirstLine, IsBodyIn, remaining_statements}
+use Rattle.ce_script.specs.ReadLines.{texts_left, rest_text, lines_left, reach_of, IsFirstLine, IsBodyIn, remaining_statements}
 use Rattle.ce_script.proofs.BodyLines.{left_shorter, line_at, text_is, first_line, numbered_append, bytes_left}
 use Rattle.ce_script.proofs.Outside.{past_body, body_there, body_missing}
 

@@ -9,9 +9,9 @@ use Rattle.ce_text.specs.Bytes.{is_line_feed}
 use Rattle.ce_text.specs.Line.{cut_parts, before_comment, lines_text}
 use Rattle.ce_text.specs.Words.{line_words}
 use Rattle.ce_text.proofs.Splitting.{split_cut, split_behind, cut_pieces}
-use Rattle.ce_script.specs.Lines.{Line, words, has_bad_byte, rest_size}
+use Rattle.ce_script.specs.Lines.{Line, numbered_lines, words, has_bad_byte, rest_size}
 use Rattle.ce_script.specs.Bodies.{has_bad_word, body_bytes, body_text}
-use Rattle.ce_script.specs.ReadLines.{texts_left, numbered_lines, with_empty_line}
+use Rattle.ce_script.specs.ReadLines.{texts_left, with_empty_line}
 
 -- the bytes that are left, if any
 abbrev pub bytes_left : Option (Bor (List ℕ)) → Option (List ℕ)

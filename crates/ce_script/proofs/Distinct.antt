@@ -4,36 +4,16 @@ use Rattle.std.proofs.lemmas.Bool.{not-true, or_parts}
 use Rattle.std.proofs.lemmas.Slice.Eq.{bytes_eq-Decides}
 use Rattle.std.specs.Prelude.{bytes_eq, filter}
 use Rattle.std.specs.List.{AllByRecursion, IsDistinct}
+use Rattle.ce_model.proofs.Members.{all-append, all-filter, all-filtered, all-weaker}
 use Rattle.ce_script.specs.Sayings.{without_repeats}
 use Rattle.ce_script.specs.Faults.{is_one_name_of}
-use Rattle.ce_script.proofs.Spots.{each_of}
 
 -- ---- what holds of each
-
-pub filter_each : {A : Type 0} (P : A → Type 0) (test : A → Bool) (all : List A) → AllByRecursion P all → AllByRecursion P (filter test all)
-filter_each P test [] each = tt
-filter_each P test (one ∷ others) each =
-    elim (test one) as (λ b. AllByRecursion P (cond b (one ∷ filter test others) (filter test others))) [
-      | true ↦ (each.0, filter_each P test others each.1)
-      | false ↦ filter_each P test others each.1
-    ]
-
-each_passes : {A : Type 0} (test : A → Bool) (all : List A) → AllByRecursion (λ one. test one ≡ true) (filter test all)
-each_passes test [] = tt
-each_passes test (one ∷ others) =
-    elim (test one) as (λ b. test one ≡ b → AllByRecursion (λ it. test it ≡ true) (cond b (one ∷ filter test others) (filter test others))) [
-      | true ↦ λ passes. (passes, each_passes test others)
-      | false ↦ λ _. each_passes test others
-    ] refl
-
-each_behind : {A : Type 0} (P : A → Type 0) (all : List A) (one : A) → AllByRecursion P all → P one → AllByRecursion P (all ++ one ∷ [])
-each_behind P [] one each p = (p, tt)
-each_behind P (first ∷ others) one each p = (each.0, each_behind P others one each.1 p)
 
 pub distinct_each : (P : List ℕ → Type 0) (names : List (List ℕ)) → AllByRecursion P names → AllByRecursion P (without_repeats names)
 distinct_each P [] each = tt
 distinct_each P (name ∷ names) each =
-    (each.0, filter_each P (λ other. not (bytes_eq name other)) (without_repeats names) (distinct_each P names each.1))
+    (each.0, all-filter P (λ other. not (bytes_eq name other)) (without_repeats names) (distinct_each P names each.1))
 
 -- ---- names, each where it first appears
 
@@ -42,7 +22,7 @@ unfolding IsDistinct
 filter_distinct test [] is = tt
 filter_distinct test (name ∷ names) is =
     elim (test name) as (λ b. IsDistinct bytes_eq (cond b (name ∷ filter test names) (filter test names))) [
-      | true ↦ (filter_each (λ other. bytes_eq name other ≡ false) test names is.0, filter_distinct test names is.1)
+      | true ↦ (all-filter (λ other. bytes_eq name other ≡ false) test names is.0, filter_distinct test names is.1)
       | false ↦ filter_distinct test names is.1
     ]
 
@@ -51,7 +31,7 @@ unfolding IsDistinct
 distinct_are_distinct [] = tt
 distinct_are_distinct (name ∷ names) =
     let test : List ℕ → Bool = λ other. not (bytes_eq name other) in (
-      each_of (λ other. test other ≡ true) (λ other. bytes_eq name other ≡ false) (filter test (without_repeats names)) (λ other. not-true (bytes_eq name other)) (each_passes test (without_repeats names)),
+      all-weaker (λ other. test other ≡ true) (λ other. bytes_eq name other ≡ false) (filter test (without_repeats names)) (λ other. not-true (bytes_eq name other)) (all-filtered test (without_repeats names)),
       filter_distinct test (without_repeats names) (distinct_are_distinct names),
     )
 
@@ -69,4 +49,4 @@ unfolding IsDistinct
 distinct_behind [] name is apart = (tt, tt)
 distinct_behind (first ∷ names) name is apart =
     let both = or_parts (bytes_eq name first) (is_one_name_of names name) apart in
-    (each_behind (λ other. bytes_eq first other ≡ false) names name is.0 (flipped name first both.0), distinct_behind names name is.1 both.1)
+    (all-append (λ other. bytes_eq first other ≡ false) names (name ∷ []) is.0 (flipped name first both.0, tt), distinct_behind names name is.1 both.1)

@@ -171,11 +171,11 @@ entry_line true last fault e =
 entry_line false last fault e = absurd cc
 
 -- what comes behind the second pass
-abbrev entered : LayoutSoFar → List Part → Result Assembly AsmFault
-entered laid parts =
+abbrev assembly_with_entry : LayoutSoFar → List Part → Result Assembly AsmFault
+assembly_with_entry laid parts =
     judgment_at_line 0 (refusal (not (is_entry (entry_of laid.names) laid.size)) kinds.Entry) >>= λ begins. Ok (record { entry = entry_of laid.names; parts = parts })
 
-entered_line : (laid : LayoutSoFar) (parts : List Part) (last : ℕ) (fault : AsmFault) → entered laid parts ≡ Err fault → fault.line ≤ last
+entered_line : (laid : LayoutSoFar) (parts : List Part) (last : ℕ) (fault : AsmFault) → assembly_with_entry laid parts ≡ Err fault → fault.line ≤ last
 entered_line laid parts last fault e =
     let test = not (is_entry (entry_of laid.names) laid.size) in
     then_line (judgment_at_line 0 (refusal test kinds.Entry)) (λ begins. Ok (record { entry = entry_of laid.names; parts = parts })) last fault
@@ -183,7 +183,7 @@ entered_line laid parts last fault e =
 
 -- what comes behind the first pass
 abbrev behind_first : LayoutSoFar → Result Assembly AsmFault
-behind_first laid = second_pass laid.names PRIVATE_START laid.statements >>= entered laid
+behind_first laid = second_pass laid.names PRIVATE_START laid.statements >>= assembly_with_entry laid
 
 assembled_line : (text : List ℕ) (fault : AsmFault) → assembly_of text ≡ Err fault → fault.line ≤ 0 + length (line_texts text)
 unfolding assembly_of first_pass
@@ -191,7 +191,7 @@ assembled_line text fault e =
     let last = 0 + length (line_texts text) in
     let all = all_lines 0 empty_layout (line_texts text) in
     then_line (layout_with_lines 0 empty_layout (line_texts text)) behind_first last fault all.fault
-    (λ laid is. then_line (second_pass laid.names PRIVATE_START laid.statements) (entered laid) last fault
+    (λ laid is. then_line (second_pass laid.names PRIVATE_START laid.statements) (assembly_with_entry laid) last fault
     (λ one. second_line laid.names PRIVATE_START last laid.statements one (all.up laid is tt))
     (λ parts there. entered_line laid parts last fault))
     e

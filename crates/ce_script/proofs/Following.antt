@@ -20,7 +20,7 @@ use Rattle.ce_script.specs.Bodies.{located_fault}
 use Rattle.ce_script.specs.Sayings.{statements_of_kind, stated_names, without_repeats, name_number, operand_place, image_names, users, last_user, command_of_verb, command_of_statement, numbered_command}
 use Rattle.ce_script.specs.Faults.{kind_where, is_one_name_of, first_some, statement_fault, image_fault}
 use Rattle.ce_script.specs.Reading.{with_user_name, word_fault, place_fault, operands_judgment}
-use Rattle.ce_script.specs.Standing.{names_so_far, AreFew, with_statement, with_command, rest_fault, verb_fault, line_judgment, statement_judgment, IsBehind, HasReadUpTo}
+use Rattle.ce_script.specs.Standing.{names_so_far, AreFew, with_statement, with_command, rest_fault, verb_fault, line_judgment, statement_judgment, HasReadFront, HasReadUpTo}
 use Rattle.ce_script.proofs.Spots.{or_none, map_none, refused_none}
 use Rattle.ce_script.proofs.Judged.{names_append}
 use Rattle.ce_script.proofs.Members.{among_distinct}
@@ -115,7 +115,7 @@ speaker None number e h = absurd cc
 speaker (Some n) number e h = h
 
 -- the command of a statement among all is the one that the reader adds
-command_added : (so_far : ScriptSoFar) (front rest : List ScriptStatement) (here : ScriptStatement) (verb : Verb) → IsBehind so_far front → verb_of (words here.line) ≡ Some verb
+command_added : (so_far : ScriptSoFar) (front rest : List ScriptStatement) (here : ScriptStatement) (verb : Verb) → HasReadFront so_far front → verb_of (words here.line) ≡ Some verb
     → is_some so_far.user ≡ true → is_command verb ≡ true → operands_judgment (names_so_far so_far) verb here ≡ None
     → numbered_command (front ++ here ∷ rest) (record { before = front; here = here; behind = rest }) ≡ option_map (λ it. (unwrap_or so_far.user 0, it)) (command_of_verb verb (names_so_far so_far) here)
 unfolding command_of_statement
@@ -170,7 +170,7 @@ module _ (all rest : List ScriptStatement) (here : ScriptStatement) (so_far : Sc
   abbrev spot : Spot ScriptStatement
   spot = record { before = st.front; here = here; behind = rest }
 
-  steps : (next : ScriptSoFar) → IsBehind next (st.front ++ here ∷ []) → so_far.script.commands ++ cons_option (numbered_command all spot) [] ≡ next.script.commands → HasReadUpTo all next rest
+  steps : (next : ScriptSoFar) → HasReadFront next (st.front ++ here ∷ []) → so_far.script.commands ++ cons_option (numbered_command all spot) [] ≡ next.script.commands → HasReadUpTo all next rest
   steps next behind added = record {
     front = st.front ++ here ∷ [];
     whole = st.whole ∙ sym (append_assoc st.front (here ∷ []) rest);

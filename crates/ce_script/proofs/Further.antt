@@ -22,16 +22,16 @@ use Rattle.ce_script.specs.declared.script.NamedImage.{NamedImage}
 use Rattle.ce_script.specs.declared.script.ScriptFault.{ScriptFault}
 use Rattle.ce_script.specs.declared.script.ScriptKind.{ScriptKind}
 use Rattle.ce_script.specs.declared.script.ScriptKind.TheVariants.{BadByte, UnknownWord, WordCount, TooMany, Assembly, Memory}
-use Rattle.ce_script.specs.Lines.{Line, lines, words, has_bad_byte, later_spots}
+use Rattle.ce_script.specs.Lines.{Line, lines, numbered_lines, words, has_bad_byte, later_spots}
 use Rattle.ce_script.specs.Verbs.{verbs, verb_of, is_image, is_command, form_of, verb_operands, NewImage}
 use Rattle.ce_script.specs.Statements.{ScriptStatement, operand, are_only, is_end, begins_image, found_body, statements}
 use Rattle.ce_script.specs.Bodies.{located_fault, body_fault}
-use Rattle.ce_script.specs.Faults.{first_script_fault, first_some, kind_where, operand_fault, has_unknown_word, has_unknown_form, has_wrong_count, image_fault, statement_fault}
+use Rattle.ce_script.specs.Faults.{first_script_fault, first_some, kind_where, operand_fault, has_unknown_word, has_unknown_form, has_wrong_count, image_fault, statement_fault, first_statement_fault}
 use Rattle.ce_script.specs.Sayings.{dimension, images, users, commands}
 use Rattle.ce_script.specs.Reading.{ScriptUnless, word_fault, place_fault}
-use Rattle.ce_script.specs.ReadLines.{plain_line, statement_of_line, lines_left, is_inside_image_behind, remaining_statements, texts_left, numbered_lines, rest_text}
+use Rattle.ce_script.specs.ReadLines.{plain_line, statement_of_line, lines_left, is_inside_image_behind, remaining_statements, texts_left, rest_text}
 use Rattle.ce_script.specs.Scripts.{IsScript, IsNoMemory}
-use Rattle.ce_script.specs.Standing.{blank_script, first_statement_fault, IsBehind, names_so_far, AreFew, new_image_fault, HasReadUpTo, with_statement, rest_fault, verb_fault, begin_fault, statement_judgment, statement_with_body, statement_on_line, IsPast}
+use Rattle.ce_script.specs.Standing.{blank_script, HasReadFront, names_so_far, AreFew, new_image_fault, HasReadUpTo, with_statement, rest_fault, verb_fault, begin_fault, statement_judgment, statement_with_body, statement_on_line, HasReadPast}
 use Rattle.ce_script.specs.ReaderCalls.{HasReadImage, HasReadStatement, HasReadStatements}
 use Rattle.ce_script.proofs.BodyFaults.{unless_map}
 use Rattle.ce_script.proofs.Following.{has_user, one_further}
@@ -132,7 +132,7 @@ module _ (so_far : ScriptSoFar) (line : WordedLine) (rest : Rest) where
       plain_wrong kind wrong =
           unless_map kind _ _ (λ (e : rest_fault so_far verb (statement_of_line line) ≡ Some kind). plain_judged ∙ ap (option_map (located_fault line.number)) e) wrong
 
-      pub plain_past : (new : ScriptSoFar) → rest_fault so_far verb (statement_of_line line) ≡ None → new ≡ with_statement so_far verb (statement_of_line line) → IsPast so_far new line rest rest
+      pub plain_past : (new : ScriptSoFar) → rest_fault so_far verb (statement_of_line line) ≡ None → new ≡ with_statement so_far verb (statement_of_line line) → HasReadPast so_far new line rest rest
       plain_past new none says = record {
         verb = verb;
         is = is;
@@ -238,7 +238,7 @@ line_keeps old line rest (Err fault) few some wrong all stands =
 
 -- ---- a text
 
-behind_nothing : IsBehind blank_script []
+behind_nothing : HasReadFront blank_script []
 unfolding dimension images users
 behind_nothing = record { dim = refl; machine = refl; has_user = refl; user = tt; images = refl; users = refl }
 

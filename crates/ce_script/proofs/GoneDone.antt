@@ -48,15 +48,15 @@ the_cube image = one_cube 0 image
 abbrev started_node : ImageParts → Node
 started_node image = node_after_hearing (image ∷ []) (says (opening_node 0 0 1)).node (start_of 0 0)
 
-abbrev posted : ImageParts → Node
-posted image = node_after_hearing (image ∷ []) (says (started_node image)).node (answer_of 0)
+abbrev posted_node : ImageParts → Node
+posted_node image = node_after_hearing (image ∷ []) (says (started_node image)).node (answer_of 0)
 
-abbrev ended : ImageParts → Node
-ended image = (says (says (posted image)).node).node
+abbrev ended_node : ImageParts → Node
+ended_node image = (says (says (posted_node image)).node).node
 
 pub record HasSaidRow (image : ImageParts) : Type 0 where
-  pub over : (says (says (posted image)).node).call ≡ take_call 0 1 None
-  pub stopped : (process_at (ended image) 0).status ≡ Stopped (Gone 0x8000_0000)
+  pub over : (says (says (posted_node image)).node).call ≡ take_call 0 1 None
+  pub stopped : (process_at (ended_node image) 0).status ≡ Stopped (Gone 0x8000_0000)
 
 -- ---- the commands with rounds
 

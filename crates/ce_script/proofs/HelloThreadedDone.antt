@@ -12,14 +12,14 @@ use Rattle.ce_script.specs.Rounds.{threaded, joined_lists, is_take, IsTurn, is_d
 use Rattle.ce_script.specs.Commands.{IsRun}
 use Rattle.ce_script.proofs.Rows.{two_rounds, entry_of}
 
-abbrev started : Entry
-started = entry_of 0 0 (Take 0 0 None (Start 0 0))
+abbrev start_take : Entry
+start_take = entry_of 0 0 (Take 0 0 None (Start 0 0))
 
-abbrev noted : Entry
-noted = entry_of 0 0 (Note 0 42)
+abbrev note_entry : Entry
+note_entry = entry_of 0 0 (Note 0 42)
 
-abbrev idle : Entry
-idle = entry_of 0 0 (Take 0 1 None Idle)
+abbrev idle_take : Entry
+idle_take = entry_of 0 0 (Take 0 1 None Idle)
 
 -- the entries of a node among others
 abbrev of_node : ℕ → List Entry → List Entry
@@ -28,15 +28,15 @@ of_node r round = filter (λ entry. entry.actor == r) round
 -- ---- the row
 
 abbrev work_entries : List Entry
-work_entries = started ∷ noted ∷ idle ∷ []
+work_entries = start_take ∷ note_entry ∷ idle_take ∷ []
 
 abbrev idle_entries : List Entry
-idle_entries = idle ∷ []
+idle_entries = idle_take ∷ []
 
 work_share : IsShare 0 work_entries
 work_share = record {
-  turns = (started ∷ noted ∷ []) ∷ [];
-  last = idle;
+  turns = (start_take ∷ note_entry ∷ []) ∷ [];
+  last = idle_take;
   each = ((refl, (refl, tt), (refl, (refl, tt))), tt);
   with_work = (refl, tt);
   last_take = (refl, tt, (refl, tt));
@@ -46,15 +46,15 @@ work_share = record {
 
 -- a share without work
 share_of_one : (r : ℕ) (last : Entry) → IsTurn r (last ∷ []) → IsFalse (is_dispatch last) → IsShare r (last ∷ [])
-share_of_one r last idle without_work =
-    record { turns = []; last = last; each = tt; with_work = tt; last_take = idle; without_work = without_work; all = refl }
+share_of_one r last idle_take without_work =
+    record { turns = []; last = last; each = tt; with_work = tt; last_take = idle_take; without_work = without_work; all = refl }
 
 work_shares : (r : ℕ) → r < 2 ^ 0 → IsShare r (of_node r work_entries)
 work_shares zero below = work_share
 work_shares (suc r) below = absurd (omega (arith, below))
 
 idle_shares : (r : ℕ) → r < 2 ^ 0 → IsShare r (of_node r idle_entries)
-idle_shares zero below = share_of_one 0 idle (refl, tt, (refl, tt)) refl
+idle_shares zero below = share_of_one 0 idle_take (refl, tt, (refl, tt)) refl
 idle_shares (suc r) below = absurd (omega (arith, below))
 
 work_is_round : IsThreadedRound 0 work_entries
@@ -72,7 +72,7 @@ hello_ran image = two_rounds threaded 0 image 10 work_entries idle_entries (work
 
 -- node 1 has nothing to do and says so in the middle of node 0's turn
 abbrev pub mixed_entries : List Entry
-mixed_entries = started ∷ entry_of 0 1 (Take 0 0 None Idle) ∷ noted ∷ idle ∷ []
+mixed_entries = start_take ∷ entry_of 0 1 (Take 0 0 None Idle) ∷ note_entry ∷ idle_take ∷ []
 
 mixed_shares : (r : ℕ) → r < 2 ^ 1 → IsShare r (of_node r mixed_entries)
 mixed_shares zero below = work_share
@@ -89,9 +89,9 @@ last_behind before [] last = refl
 last_behind before (entry ∷ entries) last = last_behind (Some entry) entries last
 
 -- a serial round with work isn't a threaded one, since its node doesn't end with a Take
-pub serial_is_not_threaded : IsThreadedRound 0 (started ∷ noted ∷ []) → ⊥
+pub serial_is_not_threaded : IsThreadedRound 0 (start_take ∷ note_entry ∷ []) → ⊥
 serial_is_not_threaded round =
     let share = round.shares 0 (lit< tt) in
-    let same : Some noted ≡ Some share.last = ap (last_or None) share.all ∙ last_behind None (joined_lists share.turns) share.last in
-    let take : option_map is_take (Some noted) ≡ Some true = ap (option_map is_take) same ∙ ap (λ test. Some test) share.last_take.0 in
+    let same : Some note_entry ≡ Some share.last = ap (last_or None) share.all ∙ last_behind None (joined_lists share.turns) share.last in
+    let take : option_map is_take (Some note_entry) ≡ Some true = ap (option_map is_take) same ∙ ap (λ test. Some test) share.last_take.0 in
     absurd (cc)

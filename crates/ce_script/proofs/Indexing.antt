@@ -18,7 +18,7 @@ use Rattle.ce_script.specs.Places.{IsIndexOf}
 use Rattle.ce_script.specs.Standing.{new_image_fault}
 use Rattle.ce_script.specs.Verbs.{NewImage}
 use Rattle.ce_script.proofs.Judging.{among_place}
-use Rattle.ce_script.proofs.Spots.{or_none, refused_none}
+use Rattle.ce_script.proofs.Spots.{option_or-none, or_none, refused_none}
 
 -- ---- the places of names with one more
 
@@ -42,10 +42,6 @@ place_pushed test names name same e =
     within : (test : List ℕ → Bool) (names : List (List ℕ)) → position_or_len test names ≤ length names
     within test names = prefix_len-le-length (λ name. not (test name)) names
 
-or_none_is : {A : Type 0} (one : Option A) → option_or one None ≡ one
-or_none_is None = refl
-or_none_is (Some x) = refl
-
 place_more : (names : List (List ℕ)) (name other : List ℕ) (same : Bool) → bytes_eq name other ≡ same → position (bytes_eq name) names ≡ None
     → cond same (Some (length names)) (position (bytes_eq other) names) ≡ position (bytes_eq other) (names ++ name ∷ [])
 place_more names name other true e none =
@@ -53,7 +49,7 @@ place_more names name other true e none =
     sym (place_pushed (bytes_eq other) names name true ((bytes_eq-Decides other name).1 (sym is))
     ∙ ap (λ (found : Option ℕ). option_or found (Some (length names))) (ap (λ (word : List ℕ). position (bytes_eq word) names) (sym is) ∙ none))
 place_more names name other false e none =
-    sym (place_pushed (bytes_eq other) names name false (nat_list_eq_equiv.symm other name ∙ e) ∙ or_none_is (position (bytes_eq other) names))
+    sym (place_pushed (bytes_eq other) names name false (nat_list_eq_equiv.symm other name ∙ e) ∙ option_or-none (position (bytes_eq other) names))
 
 -- an index of no names
 pub no_index : (index : NameTable ℕ) → meanings_of index ≡ (λ name. None) → IsIndexOf index []

@@ -5,6 +5,7 @@ use Rattle.std.proofs.lemmas.List.Elements.{filter-append}
 use Rattle.std.specs.Prelude.{option_map}
 use Rattle.std.specs.Option.{option_map_or}
 use Rattle.std.specs.List.{AllByRecursion, enumerate_from}
+use Rattle.ce_model.proofs.Members.{all-weaker}
 use Rattle.ce_script.specs.declared.grammar.Verb.{Verb}
 use Rattle.ce_script.specs.declared.grammar.Verb.TheVariants.{Machine, Image, User}
 use Rattle.ce_script.specs.Lines.{Spot, spots, words}
@@ -13,7 +14,7 @@ use Rattle.ce_script.specs.Statements.{ScriptStatement, operand, has_verb_kind}
 use Rattle.ce_script.specs.Bodies.{located_fault}
 use Rattle.ce_script.specs.Sayings.{statements_of_kind, stated_names}
 use Rattle.ce_script.specs.Faults.{expected_operands, lacks_machine, lacks_user, placed_fault, operands_fault, is_one_too_many, own_line_faults, own_line_fault, image_fault, statement_fault}
-use Rattle.ce_script.proofs.Spots.{or_none, map_none, each_none, each_mapped_none, refused_none, each_of}
+use Rattle.ce_script.proofs.Spots.{or_none, map_none, each_none, each_mapped_none, refused_none}
 
 -- ---- a statement without a fault
 
@@ -37,7 +38,7 @@ right spot e =
     }
 
 pub each_right : (all : List ScriptStatement) → AllByRecursion (λ spot. statement_fault spot ≡ None) (spots all) → AllByRecursion IsRight (spots all)
-each_right all each = each_of (λ spot. statement_fault spot ≡ None) IsRight (spots all) right each
+each_right all each = all-weaker (λ spot. statement_fault spot ≡ None) IsRight (spots all) right each
 
 -- ---- operands
 

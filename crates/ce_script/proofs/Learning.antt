@@ -16,7 +16,8 @@ use Rattle.ce_script.specs.Verbs.{verb_of, is_machine, is_image, is_user}
 use Rattle.ce_script.specs.Statements.{ScriptStatement, operand, has_verb_kind}
 use Rattle.ce_script.specs.Sayings.{statements_of_kind, stated_names, name_number, operand_number, stated_image, dimension, images, users, last_user}
 use Rattle.ce_script.specs.Reading.{with_user_name}
-use Rattle.ce_script.specs.Standing.{with_statement, with_command, IsBehind}
+use Rattle.ce_script.specs.Standing.{with_statement, with_command, HasReadFront}
+use Rattle.ce_script.proofs.Spots.{option_or-none}
 use Rattle.ce_script.proofs.Stepping.{kind_is, more_users, names_more}
 
 -- ---- each part behind one statement more
@@ -82,10 +83,6 @@ none_or : {A : Type 0} (one other : Option A) → is_some one ≡ false → opti
 none_or None other e = refl
 none_or (Some x) other e = absurd cc
 
-keeps_option : {A : Type 0} (one : Option A) → option_or one None ≡ one
-keeps_option None = refl
-keeps_option (Some x) = refl
-
 keeps_bool : (b : Bool) → (b || false) ≡ b
 keeps_bool true = refl
 keeps_bool false = refl
@@ -96,9 +93,9 @@ or_true false = refl
 
 -- a statement that is none of the three
 pub behind_command : (so_far : ScriptSoFar) (front : List ScriptStatement) (here : ScriptStatement) (verb : Verb) (command : Option Command) → verb_of (words here.line) ≡ Some verb
-    → is_machine verb ≡ false → is_image verb ≡ false → is_user verb ≡ false → IsBehind so_far front → IsBehind (with_command so_far command) (front ++ here ∷ [])
+    → is_machine verb ≡ false → is_image verb ≡ false → is_user verb ≡ false → HasReadFront so_far front → HasReadFront (with_command so_far command) (front ++ here ∷ [])
 behind_command so_far front here verb command e machine image user is = record {
-  dim = is.dim ∙ sym (dim_more front here false (kind_is is_machine here verb e ∙ machine) ∙ keeps_option (dimension front));
+  dim = is.dim ∙ sym (dim_more front here false (kind_is is_machine here verb e ∙ machine) ∙ option_or-none (dimension front));
   machine = is.machine ∙ sym (any_more is_machine front here false (kind_is is_machine here verb e ∙ machine) ∙ keeps_bool (list_any (has_verb_kind is_machine) front));
   has_user = is.has_user ∙ sym (any_more is_user front here false (kind_is is_user here verb e ∙ user) ∙ keeps_bool (list_any (has_verb_kind is_user) front));
   user =
@@ -109,7 +106,7 @@ behind_command so_far front here verb command e machine image user is = record {
 }
 
 pub behind_machine : (so_far : ScriptSoFar) (front : List ScriptStatement) (here : ScriptStatement) → verb_of (words here.line) ≡ Some Machine → is_some so_far.script.dim ≡ false
-    → IsBehind so_far front → IsBehind (with_statement so_far Machine here) (front ++ here ∷ [])
+    → HasReadFront so_far front → HasReadFront (with_statement so_far Machine here) (front ++ here ∷ [])
 behind_machine so_far front here e none is = record {
   dim = sym (dim_more front here true (kind_is is_machine here Machine e) ∙ none_or (dimension front) (Some (operand_number 1 here)) (sym (ap is_some is.dim) ∙ none));
   machine = sym (any_more is_machine front here true (kind_is is_machine here Machine e) ∙ or_true (list_any (has_verb_kind is_machine) front));
@@ -122,9 +119,9 @@ behind_machine so_far front here e none is = record {
 }
 
 pub behind_image : (so_far : ScriptSoFar) (front : List ScriptStatement) (here : ScriptStatement) → verb_of (words here.line) ≡ Some Image
-    → IsBehind so_far front → IsBehind (with_statement so_far Image here) (front ++ here ∷ [])
+    → HasReadFront so_far front → HasReadFront (with_statement so_far Image here) (front ++ here ∷ [])
 behind_image so_far front here e is = record {
-  dim = is.dim ∙ sym (dim_more front here false (kind_is is_machine here Image e) ∙ keeps_option (dimension front));
+  dim = is.dim ∙ sym (dim_more front here false (kind_is is_machine here Image e) ∙ option_or-none (dimension front));
   machine = is.machine ∙ sym (any_more is_machine front here false (kind_is is_machine here Image e) ∙ keeps_bool (list_any (has_verb_kind is_machine) front));
   has_user = is.has_user ∙ sym (any_more is_user front here false (kind_is is_user here Image e) ∙ keeps_bool (list_any (has_verb_kind is_user) front));
   user =
@@ -135,12 +132,12 @@ behind_image so_far front here e is = record {
 }
 
 pub behind_user : (so_far : ScriptSoFar) (front : List ScriptStatement) (here : ScriptStatement) → verb_of (words here.line) ≡ Some User
-    → IsBehind so_far front → IsBehind (with_statement so_far User here) (front ++ here ∷ [])
+    → HasReadFront so_far front → HasReadFront (with_statement so_far User here) (front ++ here ∷ [])
 behind_user so_far front here e is =
     let more = ap (λ known. with_user_name known (operand 1 here)) is.users ∙ sym (more_users front here User e) in
     let last = last_user_more front here true (kind_is is_user here User e) in
     record {
-      dim = is.dim ∙ sym (dim_more front here false (kind_is is_machine here User e) ∙ keeps_option (dimension front));
+      dim = is.dim ∙ sym (dim_more front here false (kind_is is_machine here User e) ∙ option_or-none (dimension front));
       machine = is.machine ∙ sym (any_more is_machine front here false (kind_is is_machine here User e) ∙ keeps_bool (list_any (has_verb_kind is_machine) front));
       has_user = sym (any_more is_user front here true (kind_is is_user here User e) ∙ or_true (list_any (has_verb_kind is_user) front));
       user = ap (name_number (operand 1 here)) more ∙ sym (ap (λ name. name_number name (users (front ++ here ∷ []))) last);

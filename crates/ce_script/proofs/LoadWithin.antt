@@ -1,16 +1,13 @@
 -- The load keeps the limits of a script.
-use Rattle.std.proofs.Common.{ℕ, ◌<◌, ◌≤◌, List, [], ◌∷◌, ◌++◌, length, map, flat_map, lit<, lit≤, refl}
+use Rattle.std.proofs.Common.{ℕ, ◌<◌, ◌≤◌, List, [], ◌∷◌, length, map, flat_map, lit<, lit≤, refl}
 use Rattle.std.specs.List.{AllByRecursion, IsDistinct}
 use Rattle.ce_model.specs.Limits.{greatest_dim, greatest_count, greatest_users, greatest_images, block_room}
+use Rattle.ce_model.proofs.Members.{all-append}
 use Rattle.ce_text.specs.Name as text
 use Rattle.ce_script.specs.Names.{is_name, name_room}
 use Rattle.ce_script.specs.Load.{load, load_commands, load_message, load_number, numbered_commands}
 use Rattle.ce_script.specs.Bounds.{IsUserCommandWithin, IsWithinLimits}
 use Rattle.ce_script.proofs.MadeLoads.{message_short}
-
-append : {A : Type 0} (P : A → Type 0) (xs ys : List A) → AllByRecursion P xs → AllByRecursion P ys → AllByRecursion P (xs ++ ys)
-append P [] ys each more = more
-append P (x ∷ xs) ys each more = (each.0, append P xs ys each.1 more)
 
 -- the commands of a user
 own_within : (k : ℕ) (message : List ℕ) → k < 4 → length message ≤ block_room
@@ -23,7 +20,7 @@ own_within k message own short =
 all_within : (seed : ℕ) (users : List ℕ) → AllByRecursion (λ k. k < 4) users → AllByRecursion (IsUserCommandWithin 4 1) (flat_map (numbered_commands seed) users)
 all_within seed [] each = tt
 all_within seed (k ∷ users) each =
-    append (IsUserCommandWithin 4 1) (numbered_commands seed k) (flat_map (numbered_commands seed) users)
+    all-append (IsUserCommandWithin 4 1) (numbered_commands seed k) (flat_map (numbered_commands seed) users)
     (own_within k (load_message seed k) each.0 (message_short (load_number seed k))) (all_within seed users each.1)
 
 pub load_within : (seed : ℕ) → IsWithinLimits (load seed)

@@ -4,6 +4,7 @@ use Rattle.std.proofs.lemmas.Bool.{not-false}
 use Rattle.std.proofs.lemmas.List.{append_assoc, append-nil}
 use Rattle.std.specs.Prelude.{IsTrue, bytes_eq}
 use Rattle.std.specs.List.{AllByRecursion, IsDistinct}
+use Rattle.ce_model.proofs.Members.{all-weaker}
 use Rattle.ce_script.specs.declared.grammar.Verb.{Verb}
 use Rattle.ce_script.specs.declared.grammar.Verb.TheVariants.{Image, User}
 use Rattle.ce_script.specs.declared.script.ScriptKind.TheVariants.{BadName, NameTaken}
@@ -14,7 +15,7 @@ use Rattle.ce_script.specs.Statements.{ScriptStatement, operand, has_verb_kind}
 use Rattle.ce_script.specs.Sayings.{statements_of_kind, stated_names, image_names, users}
 use Rattle.ce_script.specs.Faults.{is_one_name_of, kind_where}
 use Rattle.ce_script.specs.Bounds.{AreNames}
-use Rattle.ce_script.proofs.Spots.{or_none, refused_none, each_of}
+use Rattle.ce_script.proofs.Spots.{or_none, refused_none}
 use Rattle.ce_script.proofs.Judged.{IsRight, operands_right, the_verb, image_alone, user_alone, names_append}
 use Rattle.ce_script.proofs.Distinct.{distinct_each, distinct_are_distinct, distinct_behind}
 
@@ -79,7 +80,7 @@ unfolding users
 user_names_are all each =
     let IsName : List ℕ → Type 0 = λ name. IsTrue (is_name name) in
     let HasName : ScriptStatement → Type 0 = λ one. has_verb_kind is_user one ≡ true → IsName (operand 1 one) in
-    let said = each_here HasName [] all (each_of IsRight (λ spot. HasName spot.here) (spots all) user_name each) in
+    let said = each_here HasName [] all (all-weaker IsRight (λ spot. HasName spot.here) (spots all) user_name each) in
     record { each = distinct_each IsName (stated_names (statements_of_kind is_user all)) (each_name is_user IsName all said); distinct = distinct_are_distinct (stated_names (statements_of_kind is_user all)) }
 
 pub image_names_are : (all : List ScriptStatement) → AllByRecursion IsRight (spots all) → AreNames (image_names all)
@@ -87,5 +88,5 @@ unfolding image_names IsDistinct
 image_names_are all each =
     let IsName : List ℕ → Type 0 = λ name. IsTrue (is_name name) in
     let HasName : ScriptStatement → Type 0 = λ one. has_verb_kind is_image one ≡ true → IsName (operand 1 one) in
-    let said = each_here HasName [] all (each_of IsRight (λ spot. HasName spot.here) (spots all) (λ spot right is. (image_name spot right is).named) each) in
+    let said = each_here HasName [] all (all-weaker IsRight (λ spot. HasName spot.here) (spots all) (λ spot right is. (image_name spot right is).named) each) in
     record { each = each_name is_image IsName all said; distinct = images_apart [] all tt each }

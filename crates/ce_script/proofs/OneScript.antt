@@ -13,10 +13,10 @@ abbrev script : Option ℕ → List NamedImage → List (List ℕ) → List (ℕ
 script dim images users commands = record { dim = dim; images = images; users = users; commands = commands }
 
 -- the script that the statements of a text say
-abbrev said : List ℕ → Script
-said text = script (dimension (statements text)) (images (statements text)) (users (statements text)) (commands (statements text))
+abbrev script_of : List ℕ → Script
+script_of text = script (dimension (statements text)) (images (statements text)) (users (statements text)) (commands (statements text))
 
-only_said : (text : List ℕ) (other : Script) → IsScript text other → other ≡ said text
+only_said : (text : List ℕ) (other : Script) → IsScript text other → other ≡ script_of text
 only_said text other is =
     ap (λ dim. script dim other.images other.users other.commands) is.dim
     ∙ ap (λ images. script (dimension (statements text)) images other.users other.commands) is.images
@@ -26,7 +26,7 @@ only_said text other is =
 decided_by : (text : List ℕ) (fault : Option ScriptFault) → first_script_fault text ≡ fault → HasFault text ⊎ IsOneScript text
 decided_by text (Some fault) has = inl (fault, has)
 decided_by text None none =
-    inr (said text, record { no_fault = none; dim = refl; images = refl; users = refl; commands = refl }, only_said text)
+    inr (script_of text, record { no_fault = none; dim = refl; images = refl; users = refl; commands = refl }, only_said text)
 
 pub decided : (text : List ℕ) → HasFault text ⊎ IsOneScript text
 decided text = decided_by text (first_script_fault text) refl

@@ -15,14 +15,7 @@ use Rattle.ce_script.specs.Statements.{ScriptStatement, operand}
 use Rattle.ce_script.specs.Sayings.{name_number, operand_place, command_of_verb}
 use Rattle.ce_script.specs.Faults.{first_some, kind_where, operand_fault}
 use Rattle.ce_script.specs.Reading.{operands_judgment}
-
-or_none : {A : Type 0} (one : Option A) → option_or one None ≡ one
-or_none None = refl
-or_none (Some x) = refl
-
-or_assoc : {A : Type 0} (one two three : Option A) → option_or (option_or one two) three ≡ option_or one (option_or two three)
-or_assoc None two three = refl
-or_assoc (Some x) two three = refl
+use Rattle.ce_script.proofs.Spots.{option_or-none, option_or-assoc}
 
 -- the number at a place is none, or above this
 abbrev pub number_fault : ℕ → ℕ → ScriptStatement → Option ScriptKind
@@ -35,19 +28,19 @@ place_fault_at place here = first_some (number_fault place greatest_number here 
 module _ (names : List (List ℕ)) (here : ScriptStatement) where
   pub machine_fault : operands_judgment names Machine here ≡ number_fault 1 GREATEST_DIMENSION here
   unfolding operands_judgment greatest_dim
-  machine_fault = or_none (number_fault 1 GREATEST_DIMENSION here)
+  machine_fault = option_or-none (number_fault 1 GREATEST_DIMENSION here)
 
   pub getcube_fault : operands_judgment names Getcube here ≡ number_fault 1 GREATEST_DIMENSION here
   unfolding operands_judgment greatest_dim
-  getcube_fault = or_none (number_fault 1 GREATEST_DIMENSION here)
+  getcube_fault = option_or-none (number_fault 1 GREATEST_DIMENSION here)
 
   pub run_fault : operands_judgment names Run here ≡ number_fault 1 GREATEST_COUNT here
   unfolding operands_judgment greatest_count
-  run_fault = or_none (number_fault 1 GREATEST_COUNT here)
+  run_fault = option_or-none (number_fault 1 GREATEST_COUNT here)
 
   pub recv_fault : operands_judgment names Recv here ≡ number_fault 1 GREATEST_COUNT here
   unfolding operands_judgment greatest_count
-  recv_fault = or_none (number_fault 1 GREATEST_COUNT here)
+  recv_fault = option_or-none (number_fault 1 GREATEST_COUNT here)
 
   pub kill_fault : operands_judgment names Kill here ≡ place_fault_at 1 here
   unfolding operands_judgment
@@ -77,9 +70,9 @@ module _ (names : List (List ℕ)) (here : ScriptStatement) where
       let node = number_fault 1 greatest_number here in
       let pid = number_fault 2 greatest_number here in
       let hex = kind_where (is_none (data_in (operand 3 here))) BadHex in
-      ap (λ last. option_or node (option_or pid last)) (or_none hex)
-      ∙ ap (λ rest. option_or node (option_or rest hex)) (sym (or_none pid))
-      ∙ sym (or_assoc node (option_or pid None) hex)
+      ap (λ last. option_or node (option_or pid last)) (option_or-none hex)
+      ∙ ap (λ rest. option_or node (option_or rest hex)) (sym (option_or-none pid))
+      ∙ sym (option_or-assoc node (option_or pid None) hex)
 
   pub peek_fault : operands_judgment names Peek here ≡ None
   unfolding operands_judgment

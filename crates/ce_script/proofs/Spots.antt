@@ -10,6 +10,15 @@ use Rattle.ce_script.specs.Faults.{first_some, kind_where}
 
 -- ---- options
 
+pub option_or-none : {A : Type 0} (one : Option A) → option_or one None ≡ one
+option_or-none None = refl
+option_or-none (Some x) = refl
+
+pub option_or-assoc : {A : Type 0} (one two three : Option A) → option_or (option_or one two) three ≡ option_or one (option_or two three)
+option_or-assoc None two three = refl
+option_or-assoc (Some x) two three = refl
+
+-- where the first of two is none, neither is there
 pub or_none : {A : Type 0} (one other : Option A) → option_or one other ≡ None → (one ≡ None) × (other ≡ None)
 or_none None other e = (refl, e)
 or_none (Some x) other e = absurd cc
@@ -32,14 +41,6 @@ refused_none true kind e = absurd cc
 refused_none false kind e = refl
 
 -- ---- what holds of each
-
-pub each_of : {A : Type 0} (P Q : A → Type 0) (all : List A) → ((one : A) → P one → Q one) → AllByRecursion P all → AllByRecursion Q all
-each_of P Q [] f each = tt
-each_of P Q (one ∷ others) f each = (f one each.0, each_of P Q others f each.1)
-
-pub each_both : {A : Type 0} (P Q : A → Type 0) (all : List A) → AllByRecursion P all → AllByRecursion Q all → AllByRecursion (λ one. P one × Q one) all
-each_both P Q [] p q = tt
-each_both P Q (one ∷ others) p q = ((p.0, q.0), each_both P Q others p.1 q.1)
 
 pub each_made : {A B : Type 0} (f : A → Option B) (Q : B → Type 0) (all : List A) → AllByRecursion (λ one. (made : B) → f one ≡ Some made → Q made) all
     → AllByRecursion Q (filter_map f all)

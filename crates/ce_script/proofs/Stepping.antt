@@ -21,19 +21,10 @@ use Rattle.ce_script.specs.Bodies.{located_fault}
 use Rattle.ce_script.specs.Sayings.{statements_of_kind, stated_names, without_repeats, stated_image, images, image_names, users}
 use Rattle.ce_script.specs.Faults.{first_some, kind_where, has_unknown_word, has_wrong_count, has_unknown_form, operand_fault, operands_fault, is_one_too_many, lacks_end, lacks_machine, lacks_user, is_second_machine, own_line_fault, image_fault, statement_fault}
 use Rattle.ce_script.specs.Reading.{word_fault, place_fault, operands_judgment, with_user_name}
-use Rattle.ce_script.specs.Standing.{names_so_far, AreFew, rest_fault, verb_fault, line_judgment, statement_judgment, IsBehind}
+use Rattle.ce_script.specs.Standing.{names_so_far, AreFew, rest_fault, verb_fault, line_judgment, statement_judgment, HasReadFront}
 use Rattle.ce_script.proofs.Judged.{names_append}
+use Rattle.ce_script.proofs.Spots.{option_or-none, option_or-assoc}
 use Rattle.ce_script.proofs.Users.{distinct_behind_one}
-
--- ---- the first of several
-
-or_assoc : {A : Type 0} (one two three : Option A) → option_or (option_or one two) three ≡ option_or one (option_or two three)
-or_assoc None two three = refl
-or_assoc (Some x) two three = refl
-
-or_none : {A : Type 0} (one : Option A) → option_or one None ≡ one
-or_none None = refl
-or_none (Some x) = refl
 
 -- ---- what one statement more says
 
@@ -57,7 +48,7 @@ named_names front = mapped (statements_of_kind is_image front)
     mapped (one ∷ others) = ap (λ names. operand 1 one ∷ names) (mapped others)
 
 -- the names of the images that the reader knows
-pub known_names : (so_far : ScriptSoFar) (front : List ScriptStatement) → IsBehind so_far front → names_so_far so_far ≡ image_names front
+pub known_names : (so_far : ScriptSoFar) (front : List ScriptStatement) → HasReadFront so_far front → names_so_far so_far ≡ image_names front
 known_names so_far front is = ap (map (λ (named : NamedImage). named.name)) is.images ∙ named_names front
 
 -- ---- the parts of a statement's fault
@@ -70,10 +61,10 @@ module _ (bytes unknown count machine second user operands many end : Option Scr
   in_parts : first_some (bytes ∷ unknown ∷ count ∷ machine ∷ second ∷ user ∷ operands ∷ many ∷ end ∷ [])
       ≡ option_or (option_or bytes (option_or unknown count)) (option_or (option_or machine (option_or second user)) (option_or operands (option_or many end)))
   in_parts =
-      ap (λ last. option_or bytes (option_or unknown (option_or count (option_or machine (option_or second (option_or user (option_or operands (option_or many last)))))))) (or_none end)
-      ∙ ap (λ rest. option_or bytes (option_or unknown (option_or count rest))) (sym (ap (λ rest. option_or machine rest) (or_assoc second user (option_or operands (option_or many end)))) ∙ sym (or_assoc machine (option_or second user) (option_or operands (option_or many end))))
-      ∙ ap (λ rest. option_or bytes rest) (sym (or_assoc unknown count (option_or (option_or machine (option_or second user)) (option_or operands (option_or many end)))))
-      ∙ sym (or_assoc bytes (option_or unknown count) (option_or (option_or machine (option_or second user)) (option_or operands (option_or many end))))
+      ap (λ last. option_or bytes (option_or unknown (option_or count (option_or machine (option_or second (option_or user (option_or operands (option_or many last)))))))) (option_or-none end)
+      ∙ ap (λ rest. option_or bytes (option_or unknown (option_or count rest))) (sym (ap (λ rest. option_or machine rest) (option_or-assoc second user (option_or operands (option_or many end)))) ∙ sym (option_or-assoc machine (option_or second user) (option_or operands (option_or many end))))
+      ∙ ap (λ rest. option_or bytes rest) (sym (option_or-assoc unknown count (option_or (option_or machine (option_or second user)) (option_or operands (option_or many end)))))
+      ∙ sym (option_or-assoc bytes (option_or unknown count) (option_or (option_or machine (option_or second user)) (option_or operands (option_or many end))))
 
 -- ---- how many users and images there are
 
@@ -105,7 +96,7 @@ no_more_than : (most n : ℕ) → n ≤ most → nat_lt most n ≡ false
 no_more_than most n le = grind (arith, nat_tests)
 
 -- what the reader asks behind some statements
-pub too_many : (so_far : ScriptSoFar) (front rest : List ScriptStatement) (here : ScriptStatement) (verb : Verb) → IsBehind so_far front → AreFew so_far → verb_of (words here.line) ≡ Some verb
+pub too_many : (so_far : ScriptSoFar) (front rest : List ScriptStatement) (here : ScriptStatement) (verb : Verb) → HasReadFront so_far front → AreFew so_far → verb_of (words here.line) ≡ Some verb
     → is_one_too_many (record { before = front; here = here; behind = rest })
     ≡ (nat_lt greatest_users (length (cond (is_user verb) (with_user_name so_far.script.users (operand 1 here)) so_far.script.users))
     || nat_lt greatest_images (length (names_so_far so_far ++ cond (is_image verb) (operand 1 here ∷ []) [])))
@@ -115,7 +106,7 @@ too_many so_far front rest here verb is few e =
 
 -- ---- the whole fault of a statement
 
-placed_same : (front rest : List ScriptStatement) (here : ScriptStatement) (so_far : ScriptSoFar) (verb : Verb) → IsBehind so_far front → verb_of (words here.line) ≡ Some verb
+placed_same : (front rest : List ScriptStatement) (here : ScriptStatement) (so_far : ScriptSoFar) (verb : Verb) → HasReadFront so_far front → verb_of (words here.line) ≡ Some verb
     → operands_fault (record { before = front; here = here; behind = rest }) ≡ operands_judgment (names_so_far so_far) verb here
 unfolding operands_fault operands_judgment
 placed_same front rest here so_far verb is e =
@@ -123,7 +114,7 @@ placed_same front rest here so_far verb is e =
     ∙ ap (λ (found : Option Verb). first_some (map (λ placed. operand_fault (names_so_far so_far) placed.1 (operand placed.0 here)) (enumerate_from 1 (option_map_or verb_operands found [])))) e
 
 -- the fault of the place
-place_same : (front rest : List ScriptStatement) (here : ScriptStatement) (so_far : ScriptSoFar) (verb : Verb) → IsBehind so_far front → verb_of (words here.line) ≡ Some verb
+place_same : (front rest : List ScriptStatement) (here : ScriptStatement) (so_far : ScriptSoFar) (verb : Verb) → HasReadFront so_far front → verb_of (words here.line) ≡ Some verb
     → option_or (kind_where (lacks_machine (record { before = front; here = here; behind = rest })) NoMachine)
     (option_or (kind_where (is_second_machine (record { before = front; here = here; behind = rest })) SecondMachine) (kind_where (lacks_user (record { before = front; here = here; behind = rest })) NoUser))
     ≡ place_fault (is_some so_far.script.dim) (is_some so_far.user) verb
@@ -144,7 +135,7 @@ behind_operands so_far verb here =
     (kind_where (is_image verb && is_none here.body) NoEnd)
 
 few_by : (users images : Bool) (operands : Option ScriptKind) → users ≡ false → images ≡ false → option_or operands (option_or (kind_where (users || images) TooMany) (kind_where (false && true) NoEnd)) ≡ operands
-few_by users images operands e f = ap (λ u. option_or operands (option_or (kind_where (u || images) TooMany) None)) e ∙ ap (λ i. option_or operands (option_or (kind_where i TooMany) None)) f ∙ or_none operands
+few_by users images operands e f = ap (λ u. option_or operands (option_or (kind_where (u || images) TooMany) None)) e ∙ ap (λ i. option_or operands (option_or (kind_where i TooMany) None)) f ∙ option_or-none operands
 
 few_images : (so_far : ScriptSoFar) → AreFew so_far → nat_lt greatest_images (length (names_so_far so_far ++ [])) ≡ false
 few_images so_far few =
@@ -167,16 +158,16 @@ rest_same so_far User here few =
     let more = nat_lt greatest_users (length (with_user_name so_far.script.users name)) in
     ap (λ images. option_or (option_or bad None) (option_or (kind_where (more || images) TooMany) None)) (few_images so_far few)
     ∙ ap (λ over. option_or (option_or bad None) (option_or (kind_where over TooMany) None)) (or_false more)
-    ∙ ap (λ rest. option_or (option_or bad None) rest) (or_none (kind_where more TooMany))
-    ∙ ap (λ front. option_or front (kind_where more TooMany)) (or_none bad)
+    ∙ ap (λ rest. option_or (option_or bad None) rest) (option_or-none (kind_where more TooMany))
+    ∙ ap (λ front. option_or front (kind_where more TooMany)) (option_or-none bad)
 rest_same so_far Image here few =
     let name = operand 1 here in
     let named = operand_fault (names_so_far so_far) NewImage name in
     let over = nat_lt greatest_images (length (names_so_far so_far ++ name ∷ [])) in
     let end = kind_where (is_none here.body) NoEnd in
     ap (λ users. option_or (option_or named None) (option_or (kind_where (users || over) TooMany) end)) (few_users so_far few)
-    ∙ ap (λ front. option_or front (option_or (kind_where over TooMany) end)) (or_none named)
-    ∙ sym (or_assoc named (kind_where over TooMany) end)
+    ∙ ap (λ front. option_or front (option_or (kind_where over TooMany) end)) (option_or-none named)
+    ∙ sym (option_or-assoc named (kind_where over TooMany) end)
 rest_same so_far Machine here few = few_by _ _ (operands_judgment (names_so_far so_far) Machine here) (few_users so_far few) (few_images so_far few)
 rest_same so_far Getcube here few = few_by _ _ (operands_judgment (names_so_far so_far) Getcube here) (few_users so_far few) (few_images so_far few)
 rest_same so_far Peek here few = few_by _ _ (operands_judgment (names_so_far so_far) Peek here) (few_users so_far few) (few_images so_far few)
@@ -190,7 +181,7 @@ rest_same so_far Dump here few = few_by _ _ (operands_judgment (names_so_far so_
 rest_same so_far Trace here few = few_by _ _ (operands_judgment (names_so_far so_far) Trace here) (few_users so_far few) (few_images so_far few)
 
 -- the table of a statement with a verb
-with_verb : (front rest : List ScriptStatement) (here : ScriptStatement) (so_far : ScriptSoFar) (verb : Verb) → IsBehind so_far front → AreFew so_far → verb_of (words here.line) ≡ Some verb
+with_verb : (front rest : List ScriptStatement) (here : ScriptStatement) (so_far : ScriptSoFar) (verb : Verb) → HasReadFront so_far front → AreFew so_far → verb_of (words here.line) ≡ Some verb
     → own_line_fault (record { before = front; here = here; behind = rest }) ≡ line_judgment so_far here
 unfolding own_line_fault word_fault
 with_verb front rest here so_far verb is few e =
@@ -223,7 +214,7 @@ without_verb front rest here so_far e =
     last None behind = refl
     last (Some kind) behind = refl
 
-pub line_same : (front rest : List ScriptStatement) (here : ScriptStatement) (so_far : ScriptSoFar) → IsBehind so_far front → AreFew so_far
+pub line_same : (front rest : List ScriptStatement) (here : ScriptStatement) (so_far : ScriptSoFar) → HasReadFront so_far front → AreFew so_far
     → own_line_fault (record { before = front; here = here; behind = rest }) ≡ line_judgment so_far here
 line_same front rest here so_far is few = by (verb_of (words here.line)) refl
   where
@@ -232,6 +223,6 @@ line_same front rest here so_far is few = by (verb_of (words here.line)) refl
     by (Some verb) e = with_verb front rest here so_far verb is few e
 
 -- a statement is judged by what the reader knows
-pub statement_same : (front rest : List ScriptStatement) (here : ScriptStatement) (so_far : ScriptSoFar) → IsBehind so_far front → AreFew so_far
+pub statement_same : (front rest : List ScriptStatement) (here : ScriptStatement) (so_far : ScriptSoFar) → HasReadFront so_far front → AreFew so_far
     → statement_fault (record { before = front; here = here; behind = rest }) ≡ statement_judgment so_far here
 statement_same front rest here so_far is few = ap (λ line. option_or (option_map (located_fault here.line.number) line) (image_fault here)) (line_same front rest here so_far is few)

@@ -70,8 +70,8 @@ pub record HasSaidRow (image : ImageParts) : Type 0 where
 
 -- ---- the three receipts
 
-abbrev looked : Entry
-looked = entry_of 0 HOST (whats.HostTake None)
+abbrev empty_take : Entry
+empty_take = entry_of 0 HOST (whats.HostTake None)
 
 abbrev start_round : List Entry
 start_round = entry_of 0 0 (whats.Take 0 0 None (Start 0 0)) ∷ []
@@ -86,13 +86,13 @@ abbrev idle_round : List Entry
 idle_round = entry_of 0 0 (whats.Take 1 0 None Idle) ∷ []
 
 abbrev first_segment : List Entry
-first_segment = entry_of 0 HOST (whats.Arm 100) ∷ looked ∷ (start_round ++ looked ∷ (aa_round ++ entry_of 0 HOST (whats.HostTake (Some 2)) ∷ []))
+first_segment = entry_of 0 HOST (whats.Arm 100) ∷ empty_take ∷ (start_round ++ empty_take ∷ (aa_round ++ entry_of 0 HOST (whats.HostTake (Some 2)) ∷ []))
 
 abbrev second_segment : List Entry
-second_segment = entry_of 0 HOST (whats.Arm 100) ∷ looked ∷ (bb_round ++ entry_of 0 HOST (whats.HostTake (Some 3)) ∷ [])
+second_segment = entry_of 0 HOST (whats.Arm 100) ∷ empty_take ∷ (bb_round ++ entry_of 0 HOST (whats.HostTake (Some 3)) ∷ [])
 
 abbrev third_segment : List Entry
-third_segment = entry_of 0 HOST (whats.Arm 100) ∷ looked ∷ (idle_round ++ looked ∷ entry_of 0 HOST (whats.Look look_result.Quiet) ∷ [])
+third_segment = entry_of 0 HOST (whats.Arm 100) ∷ empty_take ∷ (idle_round ++ empty_take ∷ entry_of 0 HOST (whats.Look look_result.Quiet) ∷ [])
 
 abbrev first_trace : List Entry
 first_trace = entry_of 0 HOST (host_send 0 first_bytes 0) ∷ entry_of 0 HOST (host_send 1 second_bytes 1) ∷ entry_of 0 HOST (whats.Spawn 0 0 (place 0 0) true) ∷ first_segment

@@ -7,6 +7,7 @@ use Rattle.std.specs.Prelude.{IfSome, find, is_none, unwrap_or, option_map, opti
 use Rattle.std.specs.Option.{option_map_or}
 use Rattle.std.specs.Str.Parse.{digits_value}
 use Rattle.std.specs.List.{AllByRecursion, list_any, last_or}
+use Rattle.ce_model.proofs.Members.{all-both, all-weaker}
 use Rattle.ce_script.specs.declared.spelling.TheConstants.{NUMBER_DIGITS, DATA_DIGITS}
 use Rattle.ce_model.specs.Limits.{greatest_dim, greatest_count, greatest_users, greatest_images, block_room, block_room_lem}
 use Rattle.ce_host.specs.declared.command.Command.{Command}
@@ -24,7 +25,7 @@ use Rattle.ce_script.specs.Sayings.{statements_of_kind, stated_names, name_numbe
 use Rattle.ce_script.specs.Faults.{is_one_name_of, operand_fault, statement_fault, first_script_fault}
 use Rattle.ce_script.specs.Scripts.{IsScript}
 use Rattle.ce_script.specs.Bounds.{AreNames, IsCommandWithin, IsUserCommandWithin, IsWithinLimits}
-use Rattle.ce_script.proofs.Spots.{or_none, each_mapped_none, refused_none, each_of, each_both, each_made, each_whole, last_spot}
+use Rattle.ce_script.proofs.Spots.{or_none, each_mapped_none, refused_none, each_made, each_whole, last_spot}
 use Rattle.ce_script.proofs.Judged.{IsRight, each_right, operands_right, the_verb, machine_alone, names_append}
 use Rattle.ce_script.proofs.NamesSaid.{user_names_are, image_names_are}
 use Rattle.ce_script.proofs.Members.{number_below, among_front, among_distinct, last_among}
@@ -186,9 +187,9 @@ each_own_within all each =
     let IsKnown : Spot ScriptStatement → Type 0 = λ spot. IsRight spot × IsWhole spot in
     let IsMadeWithin : Spot ScriptStatement → Type 0 = λ spot. (own : ℕ × Command) → numbered_command all spot ≡ Some own → IsWithin own in
     each_made (numbered_command all) IsWithin (spots all)
-    (each_of IsKnown IsMadeWithin (spots all)
+    (all-weaker IsKnown IsMadeWithin (spots all)
     (λ spot known own e. subst (λ (every : List ScriptStatement). numbered_command every spot ≡ Some own → IsUserCommandWithin (length (users every)) (length (image_names every)) own) known.1 (own_within spot known.0 own) e)
-    (each_both IsRight IsWhole (spots all) each (each_whole [] all)))
+    (all-both IsRight IsWhole (spots all) each (each_whole [] all)))
 
 -- ---- how many users and images
 

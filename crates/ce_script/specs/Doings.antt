@@ -18,6 +18,14 @@ pub record Doing : Type 0 where
   pub answer : Answer
   pub moments : List Moment
 
+-- a command with its reply
+abbrev pub command_with_answer : Doing → Command × Answer
+command_with_answer doing = (doing.command, doing.answer)
+
+-- a user's command, without what it did
+abbrev pub user_command_of : ℕ × Doing → ℕ × Command
+user_command_of user_doing = (user_doing.0, user_doing.1.command)
+
 -- the cube that a user holds once it has done this
 abbrev pub holding_behind : List Doing → Option Holding
 holding_behind doings = holding (flat_map (λ doing. moment_entries doing.moments) doings)
@@ -32,7 +40,7 @@ IsRightDoing kind machine user earlier_doings doing =
 -- one command behind the other
 pub record AreDoings (kind : RoundKind) (machine : MachineParts) (history : List Entry) (user : ℕ)
     (answered_commands : List (Command × Answer)) (doings : List Doing) : Type 0 where
-  pub replies : map (λ doing. (doing.command, doing.answer)) doings ≡ answered_commands
+  pub replies : map command_with_answer doings ≡ answered_commands
   pub entries : flat_map (λ doing. doing.moments) doings ≡ user_moments user history
   pub each : EachAfter (IsRightDoing kind machine user) [] doings
 

@@ -23,7 +23,7 @@ kind_part UnknownImage = codes "unknown image"
 kind_part NoEnd = codes "no end line"
 kind_part (Assembly kind) = codes "assembly: "
 kind_part BadImage = codes "bad image"
-kind_part (Memory cause) = no_memory
+kind_part (Memory want) = no_memory
 
 -- behind it stands the assembler's own text, where the assembler found the fault, and else nothing;
 -- a script's own kinds stand for the assembler's Memory and BadByte, so no fault of a script has

@@ -72,17 +72,17 @@ is_one_name_of names name = list_any (bytes_eq name) names
 
 -- what is wrong with an operand, where the earlier images have these names
 abbrev pub operand_fault : List (List ℕ) → Operand → List ℕ → Option ScriptKind
-operand_fault images (Number greatest) word =
+operand_fault names (Number greatest) word =
     kind_where (is_none (bounded_number greatest word)) BadNumber
-operand_fault images NewImage word =
+operand_fault names NewImage word =
     option_or (kind_where (not (is_name word)) BadName)
-    (kind_where (is_one_name_of images word) NameTaken)
-operand_fault images Form word = None
-operand_fault images OldImage word =
+    (kind_where (is_one_name_of names word) NameTaken)
+operand_fault names Form word = None
+operand_fault names OldImage word =
     option_or (kind_where (not (is_name word)) BadName)
-    (kind_where (not (is_one_name_of images word)) UnknownImage)
-operand_fault images Name word = kind_where (not (is_name word)) BadName
-operand_fault images Data word = kind_where (is_none (data_in word)) BadHex
+    (kind_where (not (is_one_name_of names word)) UnknownImage)
+operand_fault names Name word = kind_where (not (is_name word)) BadName
+operand_fault names Data word = kind_where (is_none (data_in word)) BadHex
 
 -- what is wrong with the operand at a place
 abbrev pub placed_fault : Spot ScriptStatement → ℕ × Operand → Option ScriptKind
@@ -136,6 +136,10 @@ statement_fault spot =
     option_or (option_map (located_fault spot.here.line.number) (own_line_fault spot))
     (image_fault spot.here)
 
+-- the first fault of statements
+abbrev pub first_statement_fault : List ScriptStatement → Option ScriptFault
+first_statement_fault all = first_some (map statement_fault (spots all))
+
 -- the first fault of a text
 unfoldable pub first_script_fault : List ℕ → Option ScriptFault
-first_script_fault text = first_some (map statement_fault (spots (statements text)))
+first_script_fault text = first_statement_fault (statements text)

@@ -31,10 +31,14 @@ pub record Line : Type 0 where
   pub number : ℕ
   pub text : List ℕ
 
+-- lines with these texts, the first of which has this number
+abbrev pub numbered_lines : ℕ → List (List ℕ) → List Line
+numbered_lines first texts =
+    map (λ line. record { number = line.0; text = line.1 }) (enumerate_from first texts)
+
 -- the lines of a text, which end with a line feed or with the text, counted from 1
 unfoldable pub lines : List ℕ → List Line
-lines text =
-    map (λ line. record { number = line.0; text = line.1 }) (enumerate_from 1 (line_texts text))
+lines text = numbered_lines 1 (line_texts text)
 
 -- the words of a line: what stands between blanks before its comment
 abbrev pub words : Line → List (List ℕ)

@@ -2,13 +2,14 @@
 -- round.
 use Rattle.std.specs.Prelude.{ℕ, zero, suc, ◌+◌, ◌*◌, ◌%◌, ◌^◌, List, [], ◌∷◌, ◌++◌, map, flat_map, Some, codes}
 use Rattle.std.specs.Int.{w32, to_le_bytes}
+use Rattle.std.specs.List.{range_with_len}
 use Rattle.ce_text.specs.Line.{lines_text}
 use Rattle.rv_model.specs.Image.{ImageParts}
 use Rattle.ce_model.specs.declared.limits.TheConstants.{GREATEST_COUNT}
 use Rattle.ce_model.specs.Literals.{place}
 use Rattle.ce_host.specs.declared.command.Command.{Command}
 use Rattle.ce_host.specs.declared.command.Command.TheVariants.{Getcube, Freecube, Spawn, Send, Recv}
-use Rattle.ce_script.specs.declared.load.TheConstants.{CUBE_DIMENSION, HAND_OVERS, MACHINE_DIMENSION, NUMBER_FACTOR, NUMBER_STEP}
+use Rattle.ce_script.specs.declared.load.TheConstants.{CUBE_DIMENSION, HAND_OVERS, MACHINE_DIMENSION, NUMBER_FACTOR, NUMBER_STEP, USERS}
 use Rattle.ce_script.specs.declared.script.Script.{Script}
 use Rattle.ce_script.specs.AssemblyImage.{assembly_image}
 use Rattle.ce_script.specs.Bodies.{image_or_nothing}
@@ -77,14 +78,11 @@ load_message seed k = to_le_bytes w32 (load_number seed k) ++ to_le_bytes w32 HA
 abbrev pub load_commands : List ℕ → List Command
 load_commands message =
     Getcube CUBE_DIMENSION
-    ∷ Spawn 0 (place 0 0)
-    ∷ Spawn 0 (place 1 0)
-    ∷ Spawn 0 (place 2 0)
-    ∷ Spawn 0 (place 3 0)
-    ∷ Send (place 0 0) message
+    ∷ (map (λ node. Spawn 0 (place node 0)) (range_with_len 0 (2 ^ CUBE_DIMENSION))
+    ++ Send (place 0 0) message
     ∷ Recv GREATEST_COUNT
     ∷ Freecube
-    ∷ []
+    ∷ [])
 
 -- ---- the script
 
@@ -94,7 +92,7 @@ load_users = codes "u0" ∷ codes "u1" ∷ codes "u2" ∷ codes "u3" ∷ []
 
 -- their numbers
 abbrev pub load_user_numbers : List ℕ
-load_user_numbers = 0 ∷ 1 ∷ 2 ∷ 3 ∷ []
+load_user_numbers = range_with_len 0 USERS
 
 -- the commands of user k, with the user's number
 abbrev pub numbered_commands : ℕ → ℕ → List (ℕ × Command)

@@ -31,8 +31,8 @@ abbrev pub own_entries : ℕ → List Entry → List Entry
 own_entries user entries = filter (λ entry. entry.user == user) entries
 
 -- the entry is a call of this user's cube
-abbrev pub IsCallOf : ℕ → Entry → Type 0
-IsCallOf user entry = (entry.user ≡ user) × IsTrue (is_some (recorded_call entry.what))
+abbrev pub IsCallOfUser : ℕ → Entry → Type 0
+IsCallOfUser user entry = (entry.user ≡ user) × IsTrue (is_some (recorded_call entry.what))
 
 -- ---- the cube that a user holds
 

@@ -1,13 +1,13 @@
 -- The lines that the reader has, as the definitions see them.
-use Rattle.std.specs.Prelude.{◌≡◌, ℕ, ◌+◌, ◌<◌, ◌≤◌, ◌==◌, Bool, true, false, ◌||◌, if◌then◌else◌, List, [], ◌∷◌, ◌++◌, Option, Some, None, map, length, option_map, IfSome}
-use Rattle.std.specs.List.{enumerate_from, slice_split}
+use Rattle.std.specs.Prelude.{◌≡◌, ℕ, ◌+◌, ◌<◌, ◌≤◌, ◌==◌, Bool, true, false, ◌||◌, if◌then◌else◌, List, [], ◌∷◌, ◌++◌, Option, Some, None, length, option_map, IfSome}
+use Rattle.std.specs.List.{slice_split}
 use Rattle.ce_text.specs.Bytes.{is_line_feed}
 use Rattle.ce_text.specs.Line.{cut_parts}
 use Rattle.ce_script.specs.declared.reader.line.WordedLine.{WordedLine}
 use Rattle.ce_script.specs.declared.reader.rest.Rest.{Rest}
 use Rattle.ce_script.specs.declared.reader.rest.Body.{Body}
-use Rattle.ce_script.specs.Lines.{Line, words, rest_size}
-use Rattle.ce_script.specs.Statements.{ScriptStatement, is_end, begins_image, found_body}
+use Rattle.ce_script.specs.Lines.{Line, numbered_lines, words, rest_size}
+use Rattle.ce_script.specs.Statements.{ScriptStatement, is_end, begins_image, found_body, statement_before}
 use Rattle.ce_script.specs.Bodies.{body_text}
 
 -- the line
@@ -22,11 +22,6 @@ statement_of_line line = record { line = plain_line line; body = None }
 abbrev pub texts_left : Option (List ℕ) → List (List ℕ)
 texts_left None = []
 texts_left (Some text) = slice_split is_line_feed text
-
--- lines with these texts, the first of which has this number
-abbrev pub numbered_lines : ℕ → List (List ℕ) → List Line
-numbered_lines first texts =
-    map (λ line. record { number = line.0; text = line.1 }) (enumerate_from first texts)
 
 -- the bytes that are left
 abbrev pub rest_text : Rest → Option (List ℕ)
@@ -66,8 +61,7 @@ remaining_statements is_inside [] = []
 remaining_statements is_inside (line ∷ lines) =
     let others = remaining_statements (is_inside_image_behind is_inside line) lines in
     if (length (words line) == 0) || is_inside then others
-    else record { line = line; body = if begins_image line then found_body lines else None }
-    ∷ others
+    else statement_before line lines ∷ others
 
 -- ---- bodies
 

@@ -13,10 +13,10 @@ use Rattle.ce_script.specs.Lines.{words}
 use Rattle.ce_script.specs.Verbs.{verb_of}
 use Rattle.ce_script.specs.Statements.{ScriptStatement}
 use Rattle.ce_script.specs.Bodies.{located_fault}
-use Rattle.ce_script.specs.Faults.{image_fault}
+use Rattle.ce_script.specs.Faults.{image_fault, first_statement_fault}
 use Rattle.ce_script.specs.Reading.{ScriptUnless, word_fault, place_fault}
 use Rattle.ce_script.specs.ReadLines.{lines_left, remaining_statements}
-use Rattle.ce_script.specs.Standing.{begin_fault, with_statement, rest_fault, statement_judgment, statement_with_body, statement_on_line, IsPast, first_statement_fault, HasReadUpTo}
+use Rattle.ce_script.specs.Standing.{begin_fault, with_statement, rest_fault, statement_judgment, statement_with_body, statement_on_line, HasReadPast, HasReadUpTo}
 
 -- the reader found the verb of a statement that may stand here,
 -- or what is wrong with its words or its place
@@ -48,7 +48,7 @@ HasReadImage (Err fault) old line rest =
 -- the reader added what a statement says, or found what is wrong
 abbrev pub HasReadStatement : Result (Reader × Rest) ScriptFault → ScriptSoFar → WordedLine → Rest
     → Type 0
-HasReadStatement (Ok next) old line rest = IsPast old next.0.so_far line rest next.1
+HasReadStatement (Ok next) old line rest = HasReadPast old next.0.so_far line rest next.1
 HasReadStatement (Err fault) old line rest =
     ScriptUnless fault.kind (statement_judgment old (statement_on_line line rest) ≡ Some fault)
 

@@ -20,7 +20,8 @@ pub data RoundKind : Type 0 where
 
 -- what a node is given, where the entry is a Take
 abbrev pub entry_take_result : Entry → Option TakeResult
-entry_take_result entry = elim entry.what [ Take asking dead poller given ↦ Some given | other ↦ None ]
+entry_take_result entry =
+    elim entry.what [ Take asking dead poller given ↦ Some given | other ↦ None ]
 
 abbrev pub is_take : Entry → Bool
 is_take entry = is_some (entry_take_result entry)

@@ -18,7 +18,7 @@ use Rattle.ce_script.specs.Bodies.{empty_image, form_image}
 
 -- the statements that begin with a verb of this kind
 abbrev pub statements_of_kind : (Verb → Bool) → List ScriptStatement → List ScriptStatement
-statements_of_kind kind all = filter (has_verb_kind kind) all
+statements_of_kind test all = filter (has_verb_kind test) all
 
 -- the first words behind the verbs of these statements
 abbrev pub stated_names : List ScriptStatement → List (List ℕ)
@@ -38,13 +38,13 @@ without_repeats (name ∷ names) =
 
 -- the number that an operand writes
 abbrev pub operand_number : ℕ → ScriptStatement → ℕ
-operand_number place statement =
-    unwrap_or (bounded_number greatest_number (operand place statement)) 0
+operand_number index statement =
+    unwrap_or (bounded_number greatest_number (operand index statement)) 0
 
 -- the node and the process id that two operands write, the first of them this one
 abbrev pub operand_place : ℕ → ScriptStatement → Place
-operand_place place statement =
-    record { node = operand_number place statement; pid = operand_number (place + 1) statement }
+operand_place index statement =
+    record { node = operand_number index statement; pid = operand_number (index + 1) statement }
 
 -- ---- the machine, the images and the users
 
@@ -77,26 +77,26 @@ users all = without_repeats (stated_names (statements_of_kind is_user all))
 
 -- the command of a statement with this verb, where the images have these names
 abbrev pub command_of_verb : Verb → List (List ℕ) → ScriptStatement → Option Command
-command_of_verb Machine images statement = None
-command_of_verb Image images statement = None
-command_of_verb User images statement = None
-command_of_verb Getcube images statement = Some (command.Getcube (operand_number 1 statement))
-command_of_verb Peek images statement = Some command.Peek
-command_of_verb Freecube images statement = Some command.Freecube
-command_of_verb Spawn images statement =
-    Some (command.Spawn (name_number (operand 1 statement) images) (operand_place 2 statement))
-command_of_verb Kill images statement = Some (command.Kill (operand_place 1 statement))
-command_of_verb Send images statement =
+command_of_verb Machine names statement = None
+command_of_verb Image names statement = None
+command_of_verb User names statement = None
+command_of_verb Getcube names statement = Some (command.Getcube (operand_number 1 statement))
+command_of_verb Peek names statement = Some command.Peek
+command_of_verb Freecube names statement = Some command.Freecube
+command_of_verb Spawn names statement =
+    Some (command.Spawn (name_number (operand 1 statement) names) (operand_place 2 statement))
+command_of_verb Kill names statement = Some (command.Kill (operand_place 1 statement))
+command_of_verb Send names statement =
     Some (command.Send (operand_place 1 statement) (unwrap_or (data_in (operand 3 statement)) []))
-command_of_verb Run images statement = Some (command.Run (operand_number 1 statement))
-command_of_verb Recv images statement = Some (command.Recv (operand_number 1 statement))
-command_of_verb Dump images statement = Some (command.Dump (operand_place 1 statement))
-command_of_verb Trace images statement = Some command.Trace
+command_of_verb Run names statement = Some (command.Run (operand_number 1 statement))
+command_of_verb Recv names statement = Some (command.Recv (operand_number 1 statement))
+command_of_verb Dump names statement = Some (command.Dump (operand_place 1 statement))
+command_of_verb Trace names statement = Some command.Trace
 
 -- the command of a statement, where it is one and the images have these names
 unfoldable pub command_of_statement : List (List ℕ) → ScriptStatement → Option Command
-command_of_statement images statement =
-    option_and_then (λ verb. command_of_verb verb images statement) (verb_of (words statement.line))
+command_of_statement names statement =
+    option_and_then (λ verb. command_of_verb verb names statement) (verb_of (words statement.line))
 
 -- the name in the last `user` statement
 abbrev pub last_user : List ScriptStatement → List ℕ

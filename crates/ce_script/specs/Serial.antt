@@ -4,7 +4,7 @@ use Rattle.ce_script.specs.declared.record.Record.{Record}
 use Rattle.ce_script.specs.declared.script.Script.{Script}
 use Rattle.ce_script.specs.Rounds.{serial}
 use Rattle.ce_script.specs.Moments.{moments}
-use Rattle.ce_script.specs.Doings.{Doing, AreDoings}
+use Rattle.ce_script.specs.Doings.{Doing, user_command_of, AreDoings}
 use Rattle.ce_script.specs.Legal.{EachUser, machine_of}
 
 -- what one user did, of what all did
@@ -16,7 +16,7 @@ doings_of user all =
 -- script's order, and every round is a serial one
 pub record IsSerial (script : Script) (run_record : Record) : Type 0 where
   pub doings : List (ℕ × Doing)
-  pub commands : map (λ user_doing. (user_doing.0, user_doing.1.command)) doings ≡ script.commands
+  pub commands : map user_command_of doings ≡ script.commands
   pub together : flat_map (λ user_doing. user_doing.1.moments) doings ≡ moments run_record.history
   pub each : EachUser
       (λ number user.

@@ -15,12 +15,12 @@ use Rattle.ce_script.specs.declared.script.Script.{Script}
 use Rattle.ce_script.specs.declared.script.ScriptFault.{ScriptFault}
 use Rattle.ce_script.specs.declared.script.ScriptKind.{ScriptKind}
 use Rattle.ce_script.specs.declared.script.ScriptKind.TheVariants.{TooMany, NoEnd}
-use Rattle.ce_script.specs.Lines.{spots, later_spots, words}
+use Rattle.ce_script.specs.Lines.{later_spots, words}
 use Rattle.ce_script.specs.Verbs.{verb_of, is_machine, is_user, NewImage}
-use Rattle.ce_script.specs.Statements.{ScriptStatement, operand, has_verb_kind, begins_image, found_body}
+use Rattle.ce_script.specs.Statements.{ScriptStatement, operand, has_verb_kind, begins_image, found_body, statement_before}
 use Rattle.ce_script.specs.Bodies.{located_fault}
 use Rattle.ce_script.specs.Sayings.{operand_number, name_number, stated_image, dimension, images, users, last_user, command_of_verb, numbered_command, commands}
-use Rattle.ce_script.specs.Faults.{first_some, kind_where, operand_fault, image_fault, statement_fault}
+use Rattle.ce_script.specs.Faults.{first_some, kind_where, operand_fault, image_fault, statement_fault, first_statement_fault}
 use Rattle.ce_script.specs.ReadLines.{plain_line, lines_left, remaining_statements}
 use Rattle.ce_script.specs.Reading.{word_fault, place_fault, operands_judgment, with_user_name, user_fault}
 
@@ -156,13 +156,10 @@ statement_with_body line rest =
 
 -- the statement of the line
 abbrev pub statement_on_line : WordedLine → Rest → ScriptStatement
-statement_on_line line rest = record {
-  line = plain_line line;
-  body = if begins_image (plain_line line) then found_body (lines_left rest) else None;
-}
+statement_on_line line rest = statement_before (plain_line line) (lines_left rest)
 
--- what is left behind a statement
-pub record IsPast (old new : ScriptSoFar) (line : WordedLine) (rest next : Rest) : Type 0 where
+-- the reader knows what a statement says, and this is left behind it
+pub record HasReadPast (old new : ScriptSoFar) (line : WordedLine) (rest next : Rest) : Type 0 where
   pub verb : Verb
   pub is : verb_of (words (plain_line line)) ≡ Some verb
   pub none : statement_judgment old (statement_on_line line rest) ≡ None
@@ -178,7 +175,7 @@ blank_script =
 -- ---- the whole
 
 -- the reader knows what these statements say
-pub record IsBehind (so_far : ScriptSoFar) (front : List ScriptStatement) : Type 0 where
+pub record HasReadFront (so_far : ScriptSoFar) (front : List ScriptStatement) : Type 0 where
   pub dim : so_far.script.dim ≡ dimension front
   pub machine : is_some so_far.script.dim ≡ list_any (has_verb_kind is_machine) front
   pub has_user : is_some so_far.user ≡ list_any (has_verb_kind is_user) front
@@ -186,16 +183,12 @@ pub record IsBehind (so_far : ScriptSoFar) (front : List ScriptStatement) : Type
   pub images : so_far.script.images ≡ images front
   pub users : so_far.script.users ≡ users front
 
--- the first fault of statements
-abbrev pub first_statement_fault : List ScriptStatement → Option ScriptFault
-first_statement_fault all = first_some (map statement_fault (spots all))
-
 -- The reader knows what all statements but these last say, and none of those has a fault.
 pub record HasReadUpTo (all : List ScriptStatement) (so_far : ScriptSoFar)
     (rest : List ScriptStatement) : Type 0 where
   pub front : List ScriptStatement
   pub whole : all ≡ front ++ rest
-  pub behind : IsBehind so_far front
+  pub behind : HasReadFront so_far front
   pub faults : first_statement_fault all ≡ first_some (map statement_fault (later_spots front rest))
   pub commands : commands all
       ≡ so_far.script.commands ++ filter_map (numbered_command all) (later_spots front rest)

@@ -10,13 +10,13 @@ pub record ScriptStatement : Type 0 where
   pub line : Line
   pub body : Option (List Line)
 
--- the word at this place behind the first of a statement
+-- the word with this number behind the first of a statement
 abbrev pub operand : ℕ → ScriptStatement → List ℕ
-operand place statement = get_or (words statement.line) place []
+operand index statement = get_or (words statement.line) index []
 
 -- the statement begins with a verb of this kind
 abbrev pub has_verb_kind : (Verb → Bool) → ScriptStatement → Bool
-has_verb_kind kind statement = has_verb kind (words statement.line)
+has_verb_kind test statement = has_verb test (words statement.line)
 
 -- ---- bodies of images
 
@@ -46,13 +46,14 @@ found_body later_lines =
 
 -- ---- statements
 
+-- the statement of a line before these lines
+abbrev pub statement_before : Line → List Line → ScriptStatement
+statement_before line later_lines =
+    record { line = line; body = if begins_image line then found_body later_lines else None }
+
 -- the statement of a line
 abbrev pub line_statement : Spot Line → ScriptStatement
-line_statement spot =
-    record {
-      line = spot.here;
-      body = if begins_image spot.here then found_body spot.behind else None;
-    }
+line_statement spot = statement_before spot.here spot.behind
 
 -- a statement stands on each line that has words and is not inside an image
 unfoldable pub standing_statement : Spot Line → Option ScriptStatement

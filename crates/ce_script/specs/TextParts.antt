@@ -4,6 +4,7 @@ use Rattle.std.specs.List.{join_with_byte}
 use Rattle.std.specs.Int.{bytes_high_first}
 use Rattle.ce_text.specs.Bytes.{line_feed, space}
 use Rattle.hex.specs.Hex.{encode_lower}
+use Rattle.rv_model.specs.declared.limits.TheConstants.{WORD_SIZE}
 use Rattle.ce_model.specs.declared.topology.TheConstants.{HOST}
 use Rattle.ce_model.specs.declared.topology.Place.{Place}
 use Rattle.ce_model.specs.declared.topology.BlockId.{BlockId}
@@ -32,7 +33,7 @@ user_name run_record user =
 
 -- an address, or an instruction word: 32 bits as eight hexadecimal digits
 abbrev pub word_text : ℕ → List ℕ
-word_text n = codes "0x" ++ encode_lower (bytes_high_first 4 n)
+word_text n = codes "0x" ++ encode_lower (bytes_high_first WORD_SIZE n)
 
 -- bytes, two hexadecimal digits each
 abbrev pub bytes_text : List ℕ → List ℕ

@@ -78,7 +78,7 @@ is_command other = true
 
 -- the words begin with a verb of this kind
 abbrev pub has_verb : (Verb → Bool) → List (List ℕ) → Bool
-has_verb kind words = option_map_or kind (verb_of words) false
+has_verb test words = option_map_or test (verb_of words) false
 
 -- ---- operands
 

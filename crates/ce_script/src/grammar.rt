@@ -26,7 +26,7 @@ pub enum Verb {
 /// How the body of an image is written.
 #[derive(Clone, Copy)]
 pub enum ImageForm {
-    /// Instruction words, of eight hexadecimal digits each.
+    /// Instruction words, of `INSTRUCTION_DIGITS` hexadecimal digits each.
     Hex,
     /// An assembly text.
     Asm,

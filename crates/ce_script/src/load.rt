@@ -1,11 +1,10 @@
 //! The script of the load: four users, each with a ring of four processes that hand one message
 //! round.
-ghost use Rattle.std.specs.Prelude.{◌≡◌, ◌<◌, ◌∷◌, [], ◌++◌, IfOk, OnOk, IsTrue, length, map, flat_map, codes};
+ghost use Rattle.std.specs.Prelude.{◌≡◌, ◌<◌, ◌∷◌, [], ◌++◌, IfOk, OnOk, length, map, flat_map, codes};
 ghost use Rattle.std.specs.Int.{w32, to_le_bytes};
 ghost use Rattle.std.specs.String.{string_bytes};
 ghost use Rattle.ce_script.specs.declared.load.TheConstants.{HAND_OVERS};
 ghost use Rattle.ce_text.specs.declared.limits.TheConstants.{TEXT_LIMIT};
-ghost use Rattle.ce_script.specs.Names.{is_name};
 ghost use Rattle.ce_script.specs.Load.{numbered_commands, load, load_commands, load_user_numbers, load_users, next_number, ring_image, ring_text};
 
 use crate::limited_script::LimitedScript;
@@ -88,7 +87,7 @@ fn load_images(alloc: Global) -> Result<Items<NamedImage>, NoMemory>
 {
     let mut images = Items::new(alloc);
     images.push(NamedImage {
-        name: name_of(alloc, "ring")?,
+        name: Name::from_str(alloc, "ring")?,
         image: ring_image(alloc)?,
     })?;
     Ok(images)
@@ -115,24 +114,16 @@ fn ring_text() -> &'static [u8]
     RING.as_bytes()
 }
 
-/// The name with these letters.
-fn name_of(alloc: Global, text: &str) -> Result<Name, NoMemory>
-    requires { IsTrue (is_name text.now) }
-    ensures { IfOk result (λ name. name ≡ text.now) }
-{
-    Ok(Name::from_text(String::from_str(alloc, text)?))
-}
-
 /// The names of the users.
 #[tactic(auto, unfolding(crate::specs::Names::is_name, crate::specs::Names::name_room, ce_text::specs::Name::is_name))]
 fn load_users(alloc: Global) -> Result<Items<Name>, NoMemory>
     ensures { IfOk result (λ users. users ≡ load_users) }
 {
     let mut users = Items::new(alloc);
-    users.push(name_of(alloc, "u0")?)?;
-    users.push(name_of(alloc, "u1")?)?;
-    users.push(name_of(alloc, "u2")?)?;
-    users.push(name_of(alloc, "u3")?)?;
+    users.push(Name::from_str(alloc, "u0")?)?;
+    users.push(Name::from_str(alloc, "u1")?)?;
+    users.push(Name::from_str(alloc, "u2")?)?;
+    users.push(Name::from_str(alloc, "u3")?)?;
     Ok(users)
 }
 

@@ -6,8 +6,8 @@ use ce_model::NoMemory;
 use std::alloc::Global;
 use std::marker::Model;
 
-/// A name of a user or an image: a letter and up to 15 letters, digits and `_`. Contracts see it as
-/// its bytes.
+/// A name of a user or an image: a letter, and letters, digits and `_` behind it, `NAME_ROOM` bytes
+/// at most. Contracts see it as its bytes.
 #[derive(Debug, Drop)]
 pub struct Name {
     text: String,
@@ -34,6 +34,14 @@ impl Name {
         Name { text }
     }
 
+    /// The name with these letters, which must be a name's. `NoMemory` may come at any time.
+    pub fn from_str(alloc: Global, text: &str) -> Result<Name, NoMemory>
+        requires { IsTrue (is_name text.now) }
+        ensures { IfOk result (λ name. name ≡ text.now) }
+    {
+        Ok(Name::from_text(String::from_str(alloc, text)?))
+    }
+
     /// The name as text.
     pub fn as_str(&self) -> &str
         ensures bytes { result.now ≡ self.now }
@@ -42,7 +50,7 @@ impl Name {
         self.text.as_str()
     }
 
-    /// The same name.
+    /// The same name. `NoMemory` may come at any time.
     pub fn copy(&self, alloc: Global) -> Result<Name, NoMemory>
         ensures { IfOk result (λ name. name ≡ self.now) }
     {

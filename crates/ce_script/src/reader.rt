@@ -34,7 +34,7 @@ pub fn read_script(alloc: Global, bytes: &[u8]) -> Result<LimitedScript, ScriptF
     let mut reader = Reader::new(alloc);
     let mut rest = Rest::new(bytes);
     while let Some((line, next)) = rest.first_line() {
-        (reader, rest) = reader.line(line, next)?;
+        (reader, rest) = reader.read_line(line, next)?;
     }
     Ok(LimitedScript {
         script: reader.so_far.script,

@@ -23,7 +23,7 @@ const DATA_DIGITS: usize = 2 * BLOCK_ROOM as usize;
 /// The number that a word writes in 1 to `NUMBER_DIGITS` decimal digits, where it is at most
 /// `greatest`.
 #[tactic(auto, unfolding(crate::specs::Spellings::bounded_number))]
-pub fn number_to(word: &[u8], greatest: u32) -> Option<u32>
+pub fn bounded_number(word: &[u8], greatest: u32) -> Option<u32>
     ensures { result ≡ bounded_number greatest word.now }
 {
     if word.len() > NUMBER_DIGITS {
@@ -78,7 +78,7 @@ pub fn instruction_in(word: &[u8]) -> Option<u32>
 
 /// The bytes of a message: `-`, or an even number of hexadecimal digits, `DATA_DIGITS` at most.
 pub fn data_in(alloc: Global, word: &[u8]) -> Result<Option<Bytes>, NoMemory>
-    ensures { IfOk result (λ found. found ≡ data_in word.now) }
+    ensures { IfOk result (λ bytes. bytes ≡ data_in word.now) }
 {
     let mut bytes = Vec::new(alloc);
     if word == b"-".as_slice() {

@@ -8,7 +8,7 @@ use std::test::Fail;
 fn a_record_keeps_replies_and_history(rt: HostRuntime) -> Result<(), Fail> {
     let alloc = rt.alloc();
     let name = Name::from_text(String::from_str(alloc, "alice")?);
-    let copied = name.copy(alloc)?;
+    let name_copy = name.copy(alloc)?;
     let mut done = Items::new(alloc);
     done.push((
         Command::Getcube(0),
@@ -23,7 +23,7 @@ fn a_record_keeps_replies_and_history(rt: HostRuntime) -> Result<(), Fail> {
         what: What::Peek,
     })?;
     let run_record = Record { users, history };
-    assert_eq!(rt; copied.as_str(), "alice");
+    assert_eq!(rt; name_copy.as_str(), "alice");
     assert_eq!(rt; run_record.users.len(), 1);
     assert_eq!(rt; run_record.history.len(), 1);
     Ok(())

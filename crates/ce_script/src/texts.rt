@@ -38,7 +38,7 @@ impl ScriptKind {
             ScriptKind::UnknownImage => "unknown image",
             ScriptKind::NoEnd => "no end line",
             ScriptKind::BadImage => "bad image",
-            ScriptKind::Memory(cause) => cause.text(),
+            ScriptKind::Memory(want) => want.text(),
             ScriptKind::Assembly(kind) => {
                 return KindText {
                     kind: "assembly: ",

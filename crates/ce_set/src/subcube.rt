@@ -1,7 +1,7 @@
 ghost use Rattle.std.specs.Prelude.{◌≡◌, ℕ, ◌+◌, ◌/◌, ◌%◌, ◌^◌, ◌<◌, ◌≤◌, ◌==◌, ◌&&◌, find, IsTrue};
 ghost use Rattle.ce_model.specs.Limits.{greatest_dim};
+ghost use Rattle.ce_model.specs.Parcels.{is_member};
 ghost use Rattle.ce_model.specs.Subcubes.{node_of, is_inside, is_base, has_node, ones_of, first_free_subcube, are_all_nodes, subcube, subcubes_with_mask};
-ghost use Rattle.ce_set.specs.Words.{has_bit};
 
 use crate::deposit;
 use ce_model::{GREATEST_DIMENSION, NodeSet, Subcube};
@@ -71,8 +71,8 @@ fn first_with(free_nodes: NodeSet, mask: u32) -> Option<Subcube>
 // The bases of the subcubes with this mask whose nodes are all in the set.
 fn bases_within(set: u64, mask: u32) -> u64
     requires { mask < 2 ^ greatest_dim }
-    ensures { (n : ℕ) → has_bit result n
-        ≡ (is_base mask n && are_all_nodes (has_bit set) (ones_of greatest_dim mask)
+    ensures { (n : ℕ) → is_member n result
+        ≡ (is_base mask n && are_all_nodes (λ k. is_member k set) (ones_of greatest_dim mask)
         (subcube mask n)) }
 {
     let mut bases = set;
@@ -97,8 +97,8 @@ const CLEAR: [u64; GREATEST_DIMENSION as usize] = [
 // Those numbers of the set that have a 0 at the place and are in the set with a 1 there too.
 fn lower_halves(set: u64, place: u32) -> u64
     requires { place < greatest_dim }
-    ensures { (n : ℕ) → has_bit result n
-        ≡ (n / 2 ^ place % 2 == 0 && has_bit set n && has_bit set (n + 2 ^ place)) }
+    ensures { (n : ℕ) → is_member n result
+        ≡ (n / 2 ^ place % 2 == 0 && is_member n set && is_member (n + 2 ^ place) set) }
 {
     set & set >> (1u32 << place) & CLEAR[place as usize]
 }

@@ -9,7 +9,7 @@ use Rattle.ce_model.specs.declared.entry.What.{What}
 use Rattle.ce_model.specs.Node.{Node}
 use Rattle.ce_model.specs.Trace.{NodeRecord, sent_parcels, allowed_dispatches_after, made_dispatches_after}
 use Rattle.ce_model.specs.Cube.{Cube, CubeState, IsCube, store_after}
-use Rattle.ce_model.specs.Sound.{IsSoundNode, IsSoundHost, AreInOrder, IsSound}
+use Rattle.ce_model.specs.Sound.{IsSoundNode, IsSoundHost, AreRisingIds, IsSound}
 use Rattle.ce_solo.proofs.Counting.{count, count-nil, sum_run, sum_run-zero}
 use Rattle.ce_solo.proofs.Items.{parcel_ids}
 use Rattle.ce_solo.proofs.Records.{HasStayedSound}
@@ -58,7 +58,7 @@ node-acts cube s r what come gone of below sound acts =
             (acts.others q within (eqb-false r q f))
       ];
       host = subst (λ b. IsSoundHost (parcel_count_after s r what) (cube_record_after b HOST entry (s.standing.node_record HOST)).waiting_items) (sym no_host) acts.host;
-      hoststore = subst (λ b. AreInOrder (if b then store_after (s.standing.node_record HOST).waiting_items s.hoststore what else s.hoststore)) (sym no_host) sound.hoststore;
+      hoststore = subst (λ b. AreRisingIds (if b then store_after (s.standing.node_record HOST).waiting_items s.hoststore what else s.hoststore)) (sym no_host) sound.hoststore;
       balance = subst (λ b. (id : BlockId)
           → sum_run (come id) 0 (2 ^ cube.dim) + count id (parcel_ids (cube_record_after b HOST entry (s.standing.node_record HOST)).waiting_items)
           + count id (if b then store_after (s.standing.node_record HOST).waiting_items s.hoststore what else s.hoststore)
@@ -73,7 +73,7 @@ pub record IsHostAct (cube : Cube) (s : CubeState) (what : What) (come : BlockId
       → IsNodeStep cube (parcel_count_after s HOST what) q (s.standing.node_record q) (cube_record_after false q (record { user = cube.user; actor = HOST; what = what }) (s.standing.node_record q))
       (s.node q) (s.node q) (λ id. come id q) (λ id. 0)
   pub host : IsSoundHost (parcel_count_after s HOST what) (cube_record_after true HOST (record { user = cube.user; actor = HOST; what = what }) (s.standing.node_record HOST)).waiting_items
-  pub store : AreInOrder (store_after (s.standing.node_record HOST).waiting_items s.hoststore what)
+  pub store : AreRisingIds (store_after (s.standing.node_record HOST).waiting_items s.hoststore what)
   pub balance : (id : BlockId)
       → sum_run (come id) 0 (2 ^ cube.dim)
       + count id (parcel_ids (cube_record_after true HOST (record { user = cube.user; actor = HOST; what = what }) (s.standing.node_record HOST)).waiting_items)

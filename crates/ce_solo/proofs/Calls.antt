@@ -21,7 +21,7 @@ use Rattle.ce_solo.proofs.Lists.{all-get}
 use Rattle.ce_solo.proofs.Instructions.{any_ok}
 use Rattle.ce_solo.proofs.Windows.{count-unmapped, named-of}
 use Rattle.ce_solo.proofs.Nodes.{polls, well-turn, polls-more, changed_to, change-became}
-use Rattle.ce_solo.proofs.Words.{IsInItsTurn, call_ids, IsCallOf, IsDone, in_turn-windows, born_before, going_before, polls_before, returns-done, leaves-done, stops-done, reading-done, process_without-windows, frees-done, xmalloc-done, xfree-done, xlength-done, xsend-done}
+use Rattle.ce_solo.proofs.Words.{IsInItsTurn, call_ids, IsCallOfNode, IsDone, in_turn-windows, born_before, going_before, polls_before, returns-done, leaves-done, stops-done, reading-done, process_without-windows, frees-done, xmalloc-done, xfree-done, xlength-done, xsend-done}
 
 -- ---- several places
 
@@ -107,7 +107,7 @@ module _ (node : Node) (turn : Turn) (p : Process) (c : IsInItsTurn node turn p)
 
   -- ---- processes
 
-  says-done : (call : Call) → call_ids call ≡ [] → IsCallOf (changed_to node turn.pid p node.store node.polling_ids (Some turn)) call
+  says-done : (call : Call) → call_ids call ≡ [] → IsCallOfNode (changed_to node turn.pid p node.store node.polling_ids (Some turn)) call
       → IsDone node (leave_outcome node turn p call)
   says-done call none of_node =
       leaves-done node turn p c p node.store call refl c.registers (in_turn-windows node turn p c) c.well.store

@@ -5,15 +5,14 @@ use Rattle.std.proofs.lemmas.Bool.{cases_lt, cases_order, eq-eqb, eqb-true, ltb-
 use Rattle.std.proofs.lemmas.List.Sums.{sum_by-cons}
 use Rattle.ce_model.specs.declared.topology.BlockId.{BlockId}
 use Rattle.ce_model.specs.Blocks.{is_lower, with_id, with_ids, is_same_id}
-use Rattle.ce_model.specs.Sound.{AreInOrder}
+use Rattle.ce_model.specs.Literals.{block}
+use Rattle.ce_model.specs.Sound.{AreRisingIds}
+use Rattle.ce_model.proofs.BlockOrder.{precedes-trans}
 
 -- ---- names
 
-abbrev name_at : ℕ → ℕ → BlockId
-name_at home index = record { home = home; index = index }
-
-name_of_parts : (h k i j : ℕ) → h ≡ k → i ≡ j → name_at h i ≡ name_at k j
-name_of_parts h k i j e f = ap (λ n. name_at n i) e ∙ ap (name_at k) f
+name_of_parts : (h k i j : ℕ) → h ≡ k → i ≡ j → block h i ≡ block k j
+name_of_parts h k i j e f = ap (λ n. block n i) e ∙ ap (block k) f
 
 pub same_id : (a b : BlockId) → is_same_id a b ≡ true → a ≡ b
 same_id a b h =
@@ -135,12 +134,6 @@ precedes-home a b h = or_left _ _ (lt-ltb a.home b.home h)
 precedes-index : (a b : BlockId) → a.home ≡ b.home → a.index < b.index → is_lower a b ≡ true
 precedes-index a b h i = or_right _ _ (and_from _ _ (eq-eqb a.home b.home h) (lt-ltb a.index b.index i))
 
-pub precedes-trans : (a b c : BlockId) → is_lower a b ≡ true → is_lower b c ≡ true → is_lower a c ≡ true
-precedes-trans a b c ab bc =
-    precedes-parts a b (is_lower a c ≡ true) ab
-    (λ h. precedes-parts b c (is_lower a c ≡ true) bc (λ k. precedes-home a c (omega arith)) (λ k i. precedes-home a c (omega arith)))
-    (λ h i. precedes-parts b c (is_lower a c ≡ true) bc (λ k. precedes-home a c (omega arith)) (λ k j. precedes-index a c (omega arith) (omega arith)))
-
 -- of two names that differ one precedes the other
 pub precedes-other : (a b : BlockId) → is_lower a b ≡ false → hit a b ≡ 0 → is_lower b a ≡ true
 unfolding hit
@@ -171,22 +164,22 @@ all_behind x y [] h all = tt
 all_behind x y (z ∷ zs) h all = (precedes-trans x y z h all.0, all_behind x y zs h all.1)
 
 -- a name that a rising store doesn't have is put in its place
-pub rising-put : (x : BlockId) (xs : List BlockId) → AreInOrder xs → count x xs ≡ 0 → AreInOrder (with_id x xs)
+pub rising-put : (x : BlockId) (xs : List BlockId) → AreRisingIds xs → count x xs ≡ 0 → AreRisingIds (with_id x xs)
 unfolding count
 rising-put x [] rising new = (tt, tt)
 rising-put x (y ∷ ys) rising new =
-    cond_both (is_lower x y) (x ∷ y ∷ ys) (y ∷ with_id x ys) AreInOrder
+    cond_both (is_lower x y) (x ∷ y ∷ ys) (y ∷ with_id x ys) AreRisingIds
     (λ h. ((h, all_behind x y ys h rising.0), rising))
     (λ h. (all-put (λ z. is_lower y z ≡ true) x ys (precedes-other x y h (omega arith)) rising.0, rising-put x ys rising.1 (omega arith)))
 
-pub rising-put_all : (ids store : List BlockId) → AreInOrder store → ((id : BlockId) → count id ids + count id store ≤ 1) → AreInOrder (with_ids ids store)
+pub rising-put_all : (ids store : List BlockId) → AreRisingIds store → ((id : BlockId) → count id ids + count id store ≤ 1) → AreRisingIds (with_ids ids store)
 unfolding count
 rising-put_all [] store rising once = rising
 rising-put_all (x ∷ ids) store rising once =
     rising-put_all ids (with_id x store) (rising-put x store rising (omega (arith, once x, hit-self x)))
     (λ id. omega (arith, once id, count-put id x store))
 
-pub rising-drop : (k : ℕ) (xs : List BlockId) → AreInOrder xs → AreInOrder (drop k xs)
+pub rising-drop : (k : ℕ) (xs : List BlockId) → AreRisingIds xs → AreRisingIds (drop k xs)
 rising-drop zero xs rising = rising
 rising-drop (suc k) [] rising = tt
 rising-drop (suc k) (x ∷ xs) rising = rising-drop k xs rising.1

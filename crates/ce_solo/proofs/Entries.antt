@@ -11,7 +11,7 @@ use Rattle.ce_model.specs.Saying.{says}
 use Rattle.ce_model.specs.Hearing.{node_after_hearing}
 use Rattle.ce_model.specs.Answers.{answer}
 use Rattle.ce_model.specs.Cube.{Cube, CubeState, node_numbers, hearing_of_entry, store_after}
-use Rattle.ce_model.specs.Sound.{IsSoundTurn, IsSoundNode, IsSoundRecord, IsSoundHost, AreInOrder, IsSound}
+use Rattle.ce_model.specs.Sound.{IsSoundTurn, IsSoundNode, IsSoundRecord, IsSoundHost, AreRisingIds, IsSound}
 use Rattle.ce_solo.proofs.Counting.{count, sum_run, sum_run-same, sum_run-add}
 use Rattle.ce_solo.proofs.Lists.{with_appended}
 use Rattle.ce_solo.proofs.Items.{parcel_ids}
@@ -126,7 +126,7 @@ pub record IsCubeStep (cube : Cube) (s s' : CubeState) (come gone : BlockId → 
   pub nodes : (r : ℕ) → r < 2 ^ cube.dim
       → IsNodeStep cube s'.standing.parcel_count r (s.standing.node_record r) (s'.standing.node_record r) (s.node r) (s'.node r) (λ id. come id r) (λ id. gone id r)
   pub host : IsSoundHost s'.standing.parcel_count (s'.standing.node_record HOST).waiting_items
-  pub hoststore : AreInOrder s'.hoststore
+  pub hoststore : AreRisingIds s'.hoststore
   pub balance : (id : BlockId)
       → sum_run (come id) 0 (2 ^ cube.dim) + count id (parcel_ids (s'.standing.node_record HOST).waiting_items) + count id s'.hoststore
       ≡ sum_run (gone id) 0 (2 ^ cube.dim) + count id (parcel_ids (s.standing.node_record HOST).waiting_items) + count id s.hoststore

@@ -7,69 +7,67 @@ use Rattle.rv_model.specs.declared.limits.TheConstants.{REGISTER_COUNT}
 use Rattle.ce_model.specs.declared.topology.BlockId.{BlockId}
 use Rattle.ce_model.specs.Limits.{process_count, home_blocks, host_home, host_home_lem, greatest_dim_lem}
 use Rattle.ce_model.specs.Blocks.{is_lower, is_same_id, blocks_of_home}
+use Rattle.ce_model.specs.Literals.{block}
 use Rattle.ce_model.specs.Space.{mapped_ids}
 use Rattle.ce_model.specs.Process.{Process, unborn_process}
 use Rattle.ce_model.specs.Node.{opening_node, process_at, blocks_of}
 use Rattle.ce_model.specs.Trace.{blank_record}
 use Rattle.ce_model.specs.Cube.{Cube, IsCube, opening}
 use Rattle.ce_model.specs.Owners.{IsBlockOf, holdings}
-use Rattle.ce_model.specs.Sound.{is_polling, IsSoundProcess, IsSoundNode, AreInOrder, IsSound}
+use Rattle.ce_model.specs.Sound.{is_polling, IsSoundProcess, IsSoundNode, AreRisingIds, IsSound}
 use Rattle.ce_solo.proofs.Counting.{hit, count, count-nil, count-cons, sum_run, sum_run-same, sum_run-zero, sum_run-at, all-from_names}
 use Rattle.ce_solo.proofs.Lists.{all-of_map}
 use Rattle.ce_solo.proofs.Totals.{HeldName, names, names-total, holders-total, count_at_node, count_at_node-is, total, total-is}
 
 -- ---- the blocks of a home
 
-abbrev block_of : ℕ → ℕ → BlockId
-block_of home index = record { home = home; index = index }
-
 abbrev blocks_from : ℕ → ℕ → ℕ → List BlockId
-blocks_from home from n = map (block_of home) (range_with_len from n)
+blocks_from home from n = map (block home) (range_with_len from n)
 
-precedes-next : (home i j : ℕ) → i < j → is_lower (block_of home i) (block_of home j) ≡ true
+precedes-next : (home i j : ℕ) → i < j → is_lower (block home i) (block home j) ≡ true
 precedes-next home i j h = or_right _ _ (and_from _ _ (eq-eqb home home refl) (lt-ltb i j h))
 
-all_later : (home i from n : ℕ) → i < from → AllByRecursion (λ other. is_lower (block_of home i) other ≡ true) (blocks_from home from n)
+all_later : (home i from n : ℕ) → i < from → AllByRecursion (λ other. is_lower (block home i) other ≡ true) (blocks_from home from n)
 all_later home i from zero h = tt
 all_later home i from (suc n) h = (precedes-next home i from h, all_later home i (from + 1) n (omega arith))
 
-rising-from : (home from n : ℕ) → AreInOrder (blocks_from home from n)
+rising-from : (home from n : ℕ) → AreRisingIds (blocks_from home from n)
 rising-from home from zero = tt
 rising-from home from (suc n) = (all_later home from (from + 1) n (omega arith), rising-from home (from + 1) n)
 
-rising-home : (home : ℕ) → AreInOrder (blocks_of_home home)
+pub rising-home : (home : ℕ) → AreRisingIds (blocks_of_home home)
 rising-home home = rising-from home 0 home_blocks
 
-not_hit : (id : BlockId) (home index : ℕ) → is_same_id id (block_of home index) ≡ false → hit id (block_of home index) ≡ 0
+not_hit : (id : BlockId) (home index : ℕ) → is_same_id id (block home index) ≡ false → hit id (block home index) ≡ 0
 unfolding hit
 not_hit id home index f = ap {B = ℕ} (λ b. if b then 1 else 0) f
 
-is_hit : (id : BlockId) (home index : ℕ) → id.home ≡ home → id.index ≡ index → hit id (block_of home index) ≡ 1
+is_hit : (id : BlockId) (home index : ℕ) → id.home ≡ home → id.index ≡ index → hit id (block home index) ≡ 1
 unfolding hit
 is_hit id home index h i = ap {B = ℕ} (λ b. if b then 1 else 0) (and_from _ _ (eq-eqb id.home home h) (eq-eqb id.index index i))
 
 count-other_home : (id : BlockId) (home from n : ℕ) → (id.home ≡ home → ⊥) → count id (blocks_from home from n) ≡ 0
 count-other_home id home from zero differ = count-nil id
 count-other_home id home from (suc n) differ =
-    omega (arith, count-cons id (block_of home from) (blocks_from home (from + 1) n), not_hit id home from (and_left _ _ (ne_eqb id.home home differ)), count-other_home id home (from + 1) n differ)
+    omega (arith, count-cons id (block home from) (blocks_from home (from + 1) n), not_hit id home from (and_left _ _ (ne_eqb id.home home differ)), count-other_home id home (from + 1) n differ)
 
 count-outside : (id : BlockId) (home from n : ℕ) → (id.index < from) ⊎ (from + n ≤ id.index) → count id (blocks_from home from n) ≡ 0
 count-outside id home from zero out = count-nil id
 count-outside id home from (suc n) out =
     let differ : id.index ≡ from → ⊥ = λ e. elim out [ inl low ↦ omega (arith, e, low) | inr high ↦ omega (arith, e, high) ] in
     let more : (id.index < from + 1) ⊎ (from + 1 + n ≤ id.index) = elim out [ inl low ↦ inl (omega (arith, low)) | inr high ↦ inr (omega (arith, high)) ] in
-    omega (arith, count-cons id (block_of home from) (blocks_from home (from + 1) n), not_hit id home from (and_right _ _ (ne_eqb id.index from differ)), count-outside id home (from + 1) n more)
+    omega (arith, count-cons id (block home from) (blocks_from home (from + 1) n), not_hit id home from (and_right _ _ (ne_eqb id.index from differ)), count-outside id home (from + 1) n more)
 
 count-inside : (id : BlockId) (home from n : ℕ) → id.home ≡ home → from ≤ id.index → id.index < from + n → count id (blocks_from home from n) ≡ 1
 count-inside id home from zero same low high = absurd (omega arith)
 count-inside id home from (suc n) same low high =
     elim (cases_eq id.index from) [
       | inl here ↦
-          omega (arith, count-cons id (block_of home from) (blocks_from home (from + 1) n), is_hit id home from same here, count-outside id home (from + 1) n (inl (omega (arith, here))))
+          omega (arith, count-cons id (block home from) (blocks_from home (from + 1) n), is_hit id home from same here, count-outside id home (from + 1) n (inl (omega (arith, here))))
       | inr differ ↦
           elim (cases_lt from id.index) [
             | inl later ↦
-                omega (arith, count-cons id (block_of home from) (blocks_from home (from + 1) n), not_hit id home from (and_right _ _ (ne_eqb id.index from differ)), count-inside id home (from + 1) n same (omega (arith, later)) (omega arith))
+                omega (arith, count-cons id (block home from) (blocks_from home (from + 1) n), not_hit id home from (and_right _ _ (ne_eqb id.index from differ)), count-inside id home (from + 1) n same (omega (arith, later)) (omega arith))
             | inr sooner ↦ absurd (differ (omega (arith, sooner)))
           ]
     ]
@@ -106,12 +104,13 @@ fresh_node cube r = record {
   store = rising-home r;
 }
 
-no_windows : (n : ℕ) → flat_map (λ (p : Process). mapped_ids p.space) (replicate n unborn_process) ≡ []
-no_windows zero = refl
-no_windows (suc n) = no_windows n
+-- processes that were not started have no blocks mapped
+pub ids-unborn : (n : ℕ) → flat_map (λ (p : Process). mapped_ids p.space) (replicate n unborn_process) ≡ []
+ids-unborn zero = refl
+ids-unborn (suc n) = ids-unborn n
 
 fresh_blocks : (r dim images : ℕ) → blocks_of (opening_node r dim images) ≡ blocks_of_home r
-fresh_blocks r dim images = ap (λ ids. blocks_of_home r ++ ids) (no_windows process_count) ∙ append-nil (blocks_of_home r)
+fresh_blocks r dim images = ap (λ ids. blocks_of_home r ++ ids) (ids-unborn process_count) ∙ append-nil (blocks_of_home r)
 
 -- ---- owners
 

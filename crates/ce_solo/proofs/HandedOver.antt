@@ -1,6 +1,6 @@
 -- A parcel that a Take was answered with is for a process that asks, or for one that has stopped.
 use Rattle.std.proofs.Common.{◌≡◌, ◌⊎◌, ℕ, zero, suc, ◌+◌, ◌*◌, ◌/◌, ◌%◌, ◌^◌, ◌<◌, Bool, true, false, ◌||◌, ◌==◌, if◌then◌else◌, List, [], ◌∷◌, find, slice_index_or, Option, Some, None, refl, ap, sym, ◌∙◌, subst, arith, inl, inr}
-use Rattle.std.proofs.lemmas.Bool.{cases_Bool, eq-eqb, eqb-true, ne_eqb, or_cases}
+use Rattle.std.proofs.lemmas.Bool.{eq-eqb, eqb-true, ne_eqb, or_cases}
 use Rattle.std.proofs.lemmas.Nat.Bits.{bit_at_lowest, bit_at-suc, bit_at-zero}
 use Rattle.ce_model.specs.declared.process.Status.{Status}
 use Rattle.ce_model.specs.declared.entry.Entry.{Entry}
@@ -13,6 +13,7 @@ use Rattle.ce_model.specs.Answers.{offer_of, is_used_up, answer}
 use Rattle.ce_model.specs.Saying.{says}
 use Rattle.ce_model.specs.Cube.{Cube, CubeState, IsCube, node_numbers, Wish}
 use Rattle.ce_model.specs.Sound.{IsSound}
+use Rattle.ce_model.proofs.Subcubes.{find-passes}
 use Rattle.ce_solo.proofs.Words.{HasMadeCall}
 use Rattle.ce_solo.proofs.Sending.{not_host}
 use Rattle.ce_solo.proofs.Made.{IsMadeCall, by_host, by_node, made-leaves}
@@ -38,14 +39,6 @@ member-of test (p ∷ ps) (suc pid) h =
     (ap (λ n. is_member pid n) (sym (bits_behind (test p.status) (process_set test ps))) ∙ ap (λ n. n == 1) (sym (bit_at-suc (process_set test (p ∷ ps)) pid)) ∙ h)
 
 -- ---- what a Take is answered
-
-pub find-passes : {X : Type 0} (test : X → Bool) (xs : List X) (x : X) → find test xs ≡ Some x → test x ≡ true
-find-passes test [] x e = cc
-find-passes test (y ∷ ys) x e =
-    elim (cases_Bool (test y)) [
-      | inl t ↦ let here : Some y ≡ Some x = rw t at e in let same : y ≡ x = cc in ap test (sym same) ∙ t
-      | inr f ↦ let later : find test ys ≡ Some x = rw f at e in find-passes test ys x later
-    ]
 
 -- a Take is answered with a parcel that is the first item that can be given
 pub record IsMailFound (asking dead : ℕ) (items : List Item) (pid number : ℕ) : Type 0 where

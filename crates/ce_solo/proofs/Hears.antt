@@ -89,6 +89,17 @@ receiving_is Asking h = (refl, refl)
 receiving_is Polling h = (refl, refl)
 receiving_is (Stopped cause) h = absurd (both_ways _ refl h)
 
+-- a process that was not started is one that is unborn
+pub unborn-is : (status : Status) → is_unborn status ≡ true → status ≡ Unborn
+unborn-is Unborn is = refl
+unborn-is Running is = absurd (cc)
+unborn-is Asking is = absurd (cc)
+unborn-is Polling is = absurd (cc)
+unborn-is (Stopped cause) is = absurd (cc)
+
+pub born-is : (status : Status) → is_unborn status ≡ false → ¬ (status ≡ Unborn)
+born-is status born e = absurd (both_ways (is_unborn status) born (ap is_unborn e))
+
 -- ---- mail
 
 stored-hears : (node : Node) (parcel : Parcel) → IsWell None node → node.turn ≡ None

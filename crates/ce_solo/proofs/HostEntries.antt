@@ -18,7 +18,7 @@ use Rattle.ce_model.specs.Node.{is_place, Call, send_call, spawn_call, kill_call
 use Rattle.ce_model.specs.Trace.{NodeRecord, made_dispatches_after, allowed_dispatches_after}
 use Rattle.ce_model.specs.Answers.{is_among, kill_result, first_number, look_result_where, is_quiet, is_used_up, answer}
 use Rattle.ce_model.specs.Cube.{Cube, CubeState, IsCube, node_numbers, Wish, send_wish, spawn_wish, kill_wish, arm_wish, look_wish, mail_wish, call_of_wish, store_after, with_parcel, parcel_numbered}
-use Rattle.ce_model.specs.Sound.{IsHostItem, IsSoundHost, IsSound, AreInOrder}
+use Rattle.ce_model.specs.Sound.{IsHostItem, IsSoundHost, IsSound, AreRisingIds}
 use Rattle.ce_solo.proofs.Counting.{hit, hit-self, count, count-nil, count-one, count-cons, count-append, count-put, rising-put, same_id-self, sum_run-zero}
 use Rattle.ce_solo.proofs.Lists.{all-filter, with_appended, with_appended-is, find-out}
 use Rattle.ce_solo.proofs.Items.{parcel_ids, ids-append, all_numbers-filter, rising-filter, named-mail}
@@ -47,7 +47,7 @@ module _ (cube : Cube) (s : CubeState) (of : IsCube cube) (sound : IsSound cube 
       host-acts cube s what (λ id q. count id []) of sound (record {
         nodes = λ q within. idle-goes cube (parcel_count_after s HOST what) q (kept_at q) (cube_record_after false q (entry_of what) (kept_at q)) (s.node q) [] (λ id. 0) (sound.nodes q within) (λ id. refl) (keeps q within);
         host = subst (IsSoundHost (parcel_count_after s HOST what)) (sym no_mail) (host-more s.standing.parcel_count (parcel_count_after s HOST what) (kept_at HOST).waiting_items (omega arith) sound.host);
-        store = subst AreInOrder (sym store) sound.hoststore;
+        store = subst AreRisingIds (sym store) sound.hoststore;
         balance = λ id. omega (arith, ap (λ items. count id (parcel_ids items)) no_mail, ap (count id) store, sum_run-zero (λ q. count id []) 0 (2 ^ cube.dim) (λ k low high. count-nil id));
         dispatches = dispatches;
       })
@@ -102,7 +102,7 @@ module _ (cube : Cube) (s : CubeState) (of : IsCube cube) (sound : IsSound cube 
             idle-goes cube sent' q (kept_at q) (cube_record_after false q (entry_of what) (kept_at q)) (s.node q) (sent_ids (node_parcels q ps)) (λ name. 0) (sound.nodes q within) (λ name. refl)
             (keeps-mails cube s.standing.parcel_count sent' q (kept_at q) (kept_at q).mark (node_parcels q ps) are.more (sound.records q within) (sent-new cube s.standing.parcel_count sent' ps of are q within));
         host = sent-host cube s.standing.parcel_count sent' ps of are (kept_at HOST).waiting_items sound.host;
-        store = subst AreInOrder (sym left) (subst AreInOrder store sound.hoststore).1;
+        store = subst AreRisingIds (sym left) (subst AreRisingIds store sound.hoststore).1;
         balance = λ name.
             omega (
               arith,
@@ -152,7 +152,7 @@ module _ (cube : Cube) (s : CubeState) (of : IsCube cube) (sound : IsSound cube 
               };
               own = all-filter IsHostItem test items sound.host.own;
             });
-        store = subst AreInOrder (sym stored)
+        store = subst AreRisingIds (sym stored)
             (rising-put parcel.block.id s.hoststore sound.hoststore
             (omega (arith, total-le cube s parcel.block.id sound, total-is parcel.block.id cube.dim s, parts parcel.block.id, hit-self parcel.block.id)));
         balance = λ id. omega (arith, parts id, ap (count id) stored, count-put id parcel.block.id s.hoststore, sum_run-zero (λ q. count id []) 0 (2 ^ cube.dim) (λ k low high. count-nil id));

@@ -21,7 +21,7 @@ use Rattle.ce_model.specs.Node.{Call}
 
 -- from one place to another: what was sent is what was got and what waits, while the receiver has
 -- not stopped
-pub record AreInOrder (cube : Cube) (o : CubeState) (from to : Place) (t : List Entry) : Type 0 where
+pub record AreRisingIds (cube : Cube) (o : CubeState) (from to : Place) (t : List Entry) : Type 0 where
   pub equal : is_receiver_stopped cube (state_after_trace cube o t) to ≡ false → messages_sent o.standing from to t ≡ messages_got o.standing from to t ++ bytes_between from to (waiting_items o.standing to.node t)
   pub front : IsFront (messages_got o.standing from to t) (messages_sent o.standing from to t)
 
@@ -66,7 +66,7 @@ sent-is : (o : Standing) (from to : Place) (t : List Entry) → bytes_between fr
 unfolding messages_sent
 sent-is o from to t = refl
 
-pub order-nil : (cube : Cube) (o : CubeState) (from to : Place) → AreInOrder cube o from to []
+pub order-nil : (cube : Cube) (o : CubeState) (from to : Place) → AreRisingIds cube o from to []
 unfolding messages_sent messages_got sent_items
 order-nil cube o from to =
     let same : bytes_between from to (waiting_items o.standing to.node []) ≡ bytes_between from to ((o.standing.node_record to.node).waiting_items ++ []) =
@@ -81,12 +81,12 @@ module _ (cube : Cube) (o : CubeState) (from to : Place) (t : List Entry) (of : 
   items = waiting_items o.standing to.node t
 
   -- what the order comes to by the words on traces
-  ordered : AreInOrder cube o from to t → IsOrdered (is_receiver_stopped cube s to) (messages_sent o.standing from to t) (messages_got o.standing from to t) (bytes_between from to items)
+  ordered : AreRisingIds cube o from to t → IsOrdered (is_receiver_stopped cube s to) (messages_sent o.standing from to t) (messages_got o.standing from to t) (bytes_between from to items)
   ordered is = record { equal = is.equal; front = is.front }
 
   order-by : (entry : Entry) (is_receiver_stopped' : Bool) (sent' got' waits' : List (List ℕ)) → is_receiver_stopped cube (state_after_trace cube o (t ++ entry ∷ [])) to ≡ is_receiver_stopped' → messages_sent o.standing from to (t ++ entry ∷ []) ≡ sent'
       → messages_got o.standing from to (t ++ entry ∷ []) ≡ got' → bytes_between from to (waiting_items o.standing to.node (t ++ entry ∷ [])) ≡ waits' → IsOrdered is_receiver_stopped' sent' got' waits'
-      → AreInOrder cube o from to (t ++ entry ∷ [])
+      → AreRisingIds cube o from to (t ++ entry ∷ [])
   order-by entry is_receiver_stopped' sent' got' waits' g s h w is = record {
     equal = λ not_gone. s ∙ is.equal (sym g ∙ not_gone) ∙ ap (λ xs. xs ++ waits') (sym h) ∙ ap (λ xs. messages_got o.standing from to (t ++ entry ∷ []) ++ xs) (sym w);
     front = subst (λ xs. IsFront xs (messages_sent o.standing from to (t ++ entry ∷ []))) (sym h) (subst (λ xs. IsFront got' xs) (sym s) is.front);
@@ -99,7 +99,7 @@ module _ (cube : Cube) (o : CubeState) (from to : Place) (t : List Entry) (of : 
       → HasPassed (bytes_handed from to items (entry_in cube s actor call)) (bytes_between from to items) (bytes_between from to (filter (λ item. not (is_named_by given item)) items))
       (is_receiver_stopped cube s to) (is_receiver_stopped cube (state_after cube s (entry_in cube s actor call)) to))
       → (is_receiver_stopped cube s to ≡ true → is_receiver_stopped cube (state_after cube s (entry_in cube s actor call)) to ≡ true)
-      → AreInOrder cube o from to t → AreInOrder cube o from to (t ++ entry_in cube s actor call ∷ [])
+      → AreRisingIds cube o from to t → AreRisingIds cube o from to (t ++ entry_in cube s actor call ∷ [])
   order-entry actor call e None none passed stays is =
       let entry = entry_in cube s actor call in
       let new = items_to to.node entry in

@@ -6,10 +6,10 @@ use Rattle.rv_model.specs.declared.stop.Stop.{Stop}
 use Rattle.rv_model.specs.declared.stop.Stop.TheVariants.{Illegal, Target}
 use Rattle.rv_model.specs.declared.inst.Inst.{Inst}
 use Rattle.rv_model.specs.declared.inst.Inst.TheVariants.{Lui, Auipc, Jal, Jalr, Branch, Load, Store, OpImm, Op, Fence, Ecall, Ebreak}
-use Rattle.rv_model.specs.Words.{dec}
+use Rattle.rv_model.specs.Words.{instruction_of}
 use Rattle.rv_model.specs.Word.{wrapping_sum}
 use Rattle.rv_model.specs.Private.{word_at_pc}
-use Rattle.rv_model.specs.Exec.{Outcome, next_state, call_state, stop_state, ◌>>=◌, register_value, with_register, is_taken, immediate_result, register_result, load_size, store_size, loaded_number, next_pc, offset_by, jump_outcome, effect_of, exec}
+use Rattle.rv_model.specs.Exec.{Outcome, next_state, call_state, stop_state, ◌>>=◌, register_value, with_register, is_taken, immediate_result, register_result, load_size, store_size, loaded_number, next_pc, offset_by, jump_outcome, effect_of, step_outcome}
 use Rattle.ce_model.specs.Space.{Space, load_result, store_result, process_access}
 use Rattle.ce_solo.proofs.Windows.{IsSameHeld, same_held, stored-held}
 
@@ -58,10 +58,10 @@ performed-led (Fence word) x pc space = (refl, same_held space)
 performed-led Ecall x pc space = (refl, same_held space)
 performed-led Ebreak x pc space = tt
 
-pub exec-led : (x : List ℕ) (pc : ℕ) (space : Space) → IsLed x space (exec process_access x pc space)
-unfolding exec
-exec-led x pc space =
-    bind_led x space (word_at_pc space.private pc) (λ word. ok_or (dec word) (Illegal pc word) >>= (λ inst. effect_of process_access inst x pc space))
+pub step_outcome-led : (x : List ℕ) (pc : ℕ) (space : Space) → IsLed x space (step_outcome process_access x pc space)
+unfolding step_outcome
+step_outcome-led x pc space =
+    bind_led x space (word_at_pc space.private pc) (λ word. ok_or (instruction_of word) (Illegal pc word) >>= (λ inst. effect_of process_access inst x pc space))
     (λ word. Unit {0}) (any_ok (word_at_pc space.private pc))
-    (λ word p. bind_led x space (ok_or (dec word) (Illegal pc word)) (λ inst. effect_of process_access inst x pc space)
-    (λ inst. Unit {0}) (any_ok (ok_or (dec word) (Illegal pc word))) (λ inst q. performed-led inst x pc space))
+    (λ word p. bind_led x space (ok_or (instruction_of word) (Illegal pc word)) (λ inst. effect_of process_access inst x pc space)
+    (λ inst. Unit {0}) (any_ok (ok_or (instruction_of word) (Illegal pc word))) (λ inst q. performed-led inst x pc space))

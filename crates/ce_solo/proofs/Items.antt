@@ -13,7 +13,7 @@ use Rattle.ce_model.specs.Trace.{NodeRecord}
 use Rattle.ce_model.specs.Answers.{is_among}
 use Rattle.ce_model.specs.Cube.{Cube}
 use Rattle.ce_model.specs.Sound.{is_start_of, is_kill_of, has_start, IsStartFirst, numbers_of, IsItemOf}
-use Rattle.ce_solo.proofs.Lists.{all-filter, count_by-cons, one_if-true, one_if-false, count_by-none, any-none, none-from_any}
+use Rattle.ce_solo.proofs.Lists.{all-filter, count_by-cons, truth_bit-true, truth_bit-false, count_by-none, any-none, none-from_any}
 
 -- ---- parcels
 
@@ -191,9 +191,9 @@ named-mail pid number (mail parcel ∷ items) rising =
     elim (cases_Bool (number == parcel.number)) [
       | inl t ↦
           let above = subst (λ n. AllByRecursion (λ b. n < b) (numbers_of items)) (sym (eqb-true number parcel.number t)) rising.0 in
-          omega (arith, count_by-cons (is_named_by (Mail pid number)) (mail parcel) items, one_if-true (number == parcel.number) t, count_by-none (is_named_by (Mail pid number)) items (unnamed pid number items above))
+          omega (arith, count_by-cons (is_named_by (Mail pid number)) (mail parcel) items, truth_bit-true (number == parcel.number) t, count_by-none (is_named_by (Mail pid number)) items (unnamed pid number items above))
       | inr f ↦
-          omega (arith, count_by-cons (is_named_by (Mail pid number)) (mail parcel) items, one_if-false (number == parcel.number) f, named-mail pid number items rising.1)
+          omega (arith, count_by-cons (is_named_by (Mail pid number)) (mail parcel) items, truth_bit-false (number == parcel.number) f, named-mail pid number items rising.1)
     ]
 named-mail pid number (kill other ∷ items) rising =
     omega (arith, count_by-cons (is_named_by (Mail pid number)) (kill other) items, named-mail pid number items rising)

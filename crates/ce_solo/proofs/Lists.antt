@@ -5,43 +5,18 @@ use Rattle.std.specs.List.{AllByRecursion, list_any}
 use Rattle.std.proofs.lemmas.Bool.{cond_both, cases_Bool, both_ways, or_parts, or_from, not_from_true, not_from_false}
 use Rattle.std.proofs.lemmas.List.Sums.{sum_by-cons, sum_by-append}
 use Rattle.ce_model.specs.Lists.{ArePairwise}
+pub use Rattle.ce_model.proofs.Members.{all-append, all-back, all-weaker, all-filter, all-filtered, all-both}
 
 -- ---- all and each two
-
-pub all-append : {X : Type 0} (P : X → Type 0) (xs ys : List X) → AllByRecursion P xs → AllByRecursion P ys → AllByRecursion P (xs ++ ys)
-all-append P [] ys of_xs of_ys = of_ys
-all-append P (x ∷ xs) ys of_xs of_ys = (of_xs.0, all-append P xs ys of_xs.1 of_ys)
 
 pub all-front : {X : Type 0} (P : X → Type 0) (xs ys : List X) → AllByRecursion P (xs ++ ys) → AllByRecursion P xs
 all-front P [] ys all = tt
 all-front P (x ∷ xs) ys all = (all.0, all-front P xs ys all.1)
 
-pub all-back : {X : Type 0} (P : X → Type 0) (xs ys : List X) → AllByRecursion P (xs ++ ys) → AllByRecursion P ys
-all-back P [] ys all = all
-all-back P (x ∷ xs) ys all = all-back P xs ys all.1
-
 pub all-get : {X : Type 0} (P : X → Type 0) (xs : List X) (k : ℕ) → AllByRecursion P xs → IfSome (slice_get xs k) P
 all-get P [] k all = tt
 all-get P (x ∷ xs) zero all = all.0
 all-get P (x ∷ xs) (suc k) all = all-get P xs k all.1
-
-pub all-weaker : {X : Type 0} (P Q : X → Type 0) (xs : List X) → ((x : X) → P x → Q x) → AllByRecursion P xs → AllByRecursion Q xs
-all-weaker P Q [] up all = tt
-all-weaker P Q (x ∷ xs) up all = (up x all.0, all-weaker P Q xs up all.1)
-
-pub all-filter : {X : Type 0} (P : X → Type 0) (test : X → Bool) (xs : List X) → AllByRecursion P xs → AllByRecursion P (filter test xs)
-all-filter P test [] all = tt
-all-filter P test (x ∷ xs) all =
-    cond_both (test x) (x ∷ filter test xs) (filter test xs) (AllByRecursion P) (λ t. (all.0, all-filter P test xs all.1)) (λ f. all-filter P test xs all.1)
-
-pub all-filtered : {X : Type 0} (test : X → Bool) (xs : List X) → AllByRecursion (λ x. test x ≡ true) (filter test xs)
-all-filtered test [] = tt
-all-filtered test (x ∷ xs) =
-    cond_both (test x) (x ∷ filter test xs) (filter test xs) (AllByRecursion (λ x. test x ≡ true)) (λ t. (t, all-filtered test xs)) (λ f. all-filtered test xs)
-
-pub all-both : {X : Type 0} (P Q : X → Type 0) (xs : List X) → AllByRecursion P xs → AllByRecursion Q xs → AllByRecursion (λ x. P x × Q x) xs
-all-both P Q [] p q = tt
-all-both P Q (x ∷ xs) p q = ((p.0, q.0), all-both P Q xs p.1 q.1)
 
 pub all-map : {X Y : Type 0} (P : Y → Type 0) (f : X → Y) (xs : List X) → AllByRecursion (λ x. P (f x)) xs → AllByRecursion P (map f xs)
 all-map P f [] all = tt
@@ -75,18 +50,18 @@ count_by-cons test x xs = sum_by-cons (λ y. if test y then 1 else 0) x xs
 pub count_by-append : {X : Type 0} (test : X → Bool) (xs ys : List X) → count_by test (xs ++ ys) ≡ count_by test xs + count_by test ys
 count_by-append test xs ys = sum_by-append (λ y. if test y then 1 else 0) xs ys
 
-abbrev pub one_if : Bool → ℕ
-one_if b = if b then 1 else 0
+abbrev pub truth_bit : Bool → ℕ
+truth_bit b = if b then 1 else 0
 
-pub one_if-true : (b : Bool) → b ≡ true → one_if b ≡ 1
-one_if-true b t = ap one_if t
+pub truth_bit-true : (b : Bool) → b ≡ true → truth_bit b ≡ 1
+truth_bit-true b t = ap truth_bit t
 
-pub one_if-false : (b : Bool) → b ≡ false → one_if b ≡ 0
-one_if-false b f = ap one_if f
+pub truth_bit-false : (b : Bool) → b ≡ false → truth_bit b ≡ 0
+truth_bit-false b f = ap truth_bit f
 
-pub one_if-le : (b : Bool) → one_if b ≤ 1
-one_if-le true = omega arith
-one_if-le false = omega arith
+pub truth_bit-le : (b : Bool) → truth_bit b ≤ 1
+truth_bit-le true = omega arith
+truth_bit-le false = omega arith
 
 pub count_by-agree : {X : Type 0} (p q : X → Bool) (xs : List X) → ((x : X) → p x ≡ q x) → count_by p xs ≡ count_by q xs
 count_by-agree p q [] same = refl
@@ -103,13 +78,13 @@ count_by-filter p test (x ∷ xs) =
 -- none passes
 pub count_by-none : {X : Type 0} (p : X → Bool) (xs : List X) → AllByRecursion (λ x. p x ≡ false) xs → count_by p xs ≡ 0
 count_by-none p [] all = refl
-count_by-none p (x ∷ xs) all = omega (arith, count_by-cons p x xs, one_if-false (p x) all.0, count_by-none p xs all.1)
+count_by-none p (x ∷ xs) all = omega (arith, count_by-cons p x xs, truth_bit-false (p x) all.0, count_by-none p xs all.1)
 
 pub none-from_count : {X : Type 0} (p : X → Bool) (xs : List X) → count_by p xs ≡ 0 → AllByRecursion (λ x. p x ≡ false) xs
 none-from_count p [] none = tt
 none-from_count p (x ∷ xs) none = (
   elim (cases_Bool (p x)) [
-    | inl t ↦ absurd (omega (arith, none, count_by-cons p x xs, one_if-true (p x) t))
+    | inl t ↦ absurd (omega (arith, none, count_by-cons p x xs, truth_bit-true (p x) t))
     | inr f ↦ f
   ],
   none-from_count p xs (omega (arith, none, count_by-cons p x xs)),
@@ -149,7 +124,7 @@ pub record IsOut {X : Type 0} (e named : X → Bool) (xs : List X) (x : X) : Typ
 
 out-first : {X : Type 0} (e named : X → Bool) (x : X) (xs : List X) → e x ≡ true → named x ≡ true → count_by named (x ∷ xs) ≤ 1 → IsOut e named (x ∷ xs) x
 out-first e named x xs passes name once =
-    let none = none-from_count named xs (omega (arith, once, count_by-cons named x xs, one_if-true (named x) name)) in
+    let none = none-from_count named xs (omega (arith, once, count_by-cons named x xs, truth_bit-true (named x) name)) in
     record {
       before = [];
       behind = xs;
@@ -167,7 +142,7 @@ out-later e named x y ys fails name once out =
     let other : named y ≡ false =
     elim (cases_Bool (named y)) [
       | inl t ↦
-          absurd (omega (arith, once, count_by-cons named y ys, one_if-true (named y) t, ap (count_by named) out.whole, count_by-append named out.before (x ∷ out.behind), count_by-cons named x out.behind, one_if-true (named x) name))
+          absurd (omega (arith, once, count_by-cons named y ys, truth_bit-true (named y) t, ap (count_by named) out.whole, count_by-append named out.before (x ∷ out.behind), count_by-cons named x out.behind, truth_bit-true (named x) name))
       | inr f ↦ f
     ] in
     record {

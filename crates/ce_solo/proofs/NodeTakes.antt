@@ -13,7 +13,7 @@ use Rattle.ce_model.specs.declared.entry.TakeResult.TheVariants.{Start, Kill, Po
 use Rattle.ce_model.specs.Limits.{process_count}
 use Rattle.ce_model.specs.Parcels.{Parcel, Item, start, mail, kill, is_eligible, take_result_of, is_named_by, parcel_in}
 use Rattle.ce_model.specs.Process.{Process, unborn_process, is_stopped}
-use Rattle.ce_model.specs.Node.{Node, process_at, blocks_of, take_call, take_call_of}
+use Rattle.ce_model.specs.Node.{Turn, Node, process_at, blocks_of, take_call, take_call_of}
 use Rattle.ce_model.specs.Trace.{Mark, NodeRecord, mark_after, is_work}
 use Rattle.ce_model.specs.Answers.{offer_of, is_used_up}
 use Rattle.ce_model.specs.Saying.{says}
@@ -25,7 +25,7 @@ use Rattle.ce_solo.proofs.Items.{parcel_ids}
 use Rattle.ce_solo.proofs.Nodes.{polls, IsWell, became-then}
 use Rattle.ce_solo.proofs.Words.{HasMadeCall}
 use Rattle.ce_solo.proofs.Hears.{HasHeardAnswer, HasStarted, nothing-hears, poll-hears, kill-hears, mail-hears, start-begins}
-use Rattle.ce_solo.proofs.Lists.{count_by-cons, one_if-true, one_if-false}
+use Rattle.ce_solo.proofs.Lists.{count_by-cons, truth_bit-true, truth_bit-false}
 use Rattle.ce_solo.proofs.Records.{record_with, is_unborn_id, HasTakenItem, takes-item, start-taken, kill-taken, without_named, among-all}
 use Rattle.ce_solo.proofs.Entries.{cube_record_after, cube_node_after, state_after, sound_node-became, IsNodeStep}
 use Rattle.ce_solo.proofs.Acts.{idle-goes, IsNodeAct, node-acts}
@@ -36,7 +36,7 @@ use Rattle.ce_solo.proofs.NodeEntries.{host-more, once_here, quiet-entry, plain_
 -- who is first in a list is in it
 first-polls : (pid : ℕ) (polling : List ℕ) → slice_get polling 0 ≡ Some pid → 1 ≤ polls pid polling
 first-polls pid [] e = cc
-first-polls pid (x ∷ xs) e = let same : x ≡ pid = cc in omega (arith, count_by-cons (λ other. other == pid) x xs, one_if-true (x == pid) (eq-eqb x pid same))
+first-polls pid (x ∷ xs) e = let same : x ≡ pid = cc in omega (arith, count_by-cons (λ other. other == pid) x xs, truth_bit-true (x == pid) (eq-eqb x pid same))
 
 pub polling_is : (s : Status) → is_polling s ≡ true → (is_unborn s ≡ false) × (is_stopped s ≡ false)
 polling_is Unborn h = absurd (both_ways _ refl h)
@@ -46,11 +46,11 @@ polling_is Polling h = (refl, refl)
 polling_is (Stopped cause) h = absurd (both_ways _ refl h)
 
 -- a process that is first among those that poll polls
-pub poller-polls : (node : Node) (pid : ℕ) → IsWell None node → slice_get node.polling_ids 0 ≡ Some pid → is_polling (process_at node pid).status ≡ true
+pub poller-polls : {turn : Option Turn} (node : Node) (pid : ℕ) → IsWell turn node → slice_get node.polling_ids 0 ≡ Some pid → is_polling (process_at node pid).status ≡ true
 poller-polls node pid well e =
     elim (cases_Bool (is_polling (process_at node pid).status)) [
       | inl t ↦ t
-      | inr f ↦ absurd (omega (arith, first-polls pid node.polling_ids e, well.polling_ids pid, one_if-false (is_polling (process_at node pid).status) f))
+      | inr f ↦ absurd (omega (arith, first-polls pid node.polling_ids e, well.polling_ids pid, truth_bit-false (is_polling (process_at node pid).status) f))
     ]
 
 pub poller-within : (node : Node) (pid : ℕ) → IsWell None node → is_polling (process_at node pid).status ≡ true → pid < process_count

@@ -12,7 +12,7 @@ use Rattle.ce_model.specs.Blocks.{Block, with_ids}
 use Rattle.ce_model.specs.Space.{mapped_ids}
 use Rattle.ce_model.specs.Process.{Process, is_stopped, unborn_process, ended_process}
 use Rattle.ce_model.specs.Node.{Turn, Node, process_at, without_poller, with_stopped_process, blocks_of}
-use Rattle.ce_model.specs.Sound.{is_unborn, is_running, is_polling, is_turn_of, AreInOrder}
+use Rattle.ce_model.specs.Sound.{is_unborn, is_running, is_polling, is_turn_of, AreRisingIds}
 use Rattle.ce_solo.proofs.Counting.{count, count-nil, count-append, count-put_all, count-set, count-piece, rising-put_all}
 use Rattle.ce_solo.proofs.Windows.{IsSameHeld, ids-emptied}
 
@@ -60,7 +60,7 @@ pub record IsWell (turn : Option Turn) (node : Node) : Type 0 where
   pub process_ids : length node.processes ≡ process_count
   pub processes : (pid : ℕ) → pid < process_count → IsWellProcess turn pid (process_at node pid)
   pub polling_ids : (pid : ℕ) → polls pid node.polling_ids ≡ (if is_polling (process_at node pid).status then 1 else 0)
-  pub store : AreInOrder node.store
+  pub store : AreRisingIds node.store
   pub once : (id : BlockId) → count id (blocks_of node) ≤ 1
 
 -- a node is as well at another point of its process's turn
@@ -135,7 +135,7 @@ pub record IsChange (turn turn' : Option Turn) (node : Node) (pid : ℕ) (p : Pr
   pub within : pid < process_count
   pub process : IsWellProcess turn' pid p
   pub turns : (q : ℕ) → (q ≡ pid → ⊥) → is_turn_of q turn' ≡ is_turn_of q turn
-  pub rising : AreInOrder store
+  pub rising : AreRisingIds store
   pub poll : polls pid polling ≡ (if is_polling p.status then 1 else 0)
   pub others_poll : (q : ℕ) → (q ≡ pid → ⊥) → polls q polling ≡ polls q node.polling_ids
   pub blocks : (id : BlockId)

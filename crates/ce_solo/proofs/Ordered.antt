@@ -23,7 +23,7 @@ use Rattle.ce_solo.proofs.Entries.{cube_node_after, state_after, entry_in}
 use Rattle.ce_solo.proofs.Made.{IsMadeCall, by_host, by_node, made-leaves}
 use Rattle.ce_solo.proofs.Stands.{taken_result-of, no_take, IsSoundTrace, IsEntryOf, entry_of-next, stands-made, stands-nil}
 use Rattle.ce_solo.proofs.Stopped.{is_receiver_stopped, own-stays, is_receiver_stopped-stays}
-use Rattle.ce_solo.proofs.InOrder.{AreInOrder, HasPassed, order-nil, order-entry}
+use Rattle.ce_solo.proofs.InOrder.{AreRisingIds, HasPassed, order-nil, order-entry}
 use Rattle.ce_solo.proofs.Passing.{unnamed, host-takes, node-takes}
 
 module _ (cube : Cube) (s : CubeState) (of : IsCube cube) (sound : IsSound cube s) (from to : Place) where
@@ -74,11 +74,11 @@ module _ (cube : Cube) (s : CubeState) (of : IsCube cube) (sound : IsSound cube 
       (sym same) (passed-own wish call given) m parts.1
 
 order-made : (cube : Cube) (o : CubeState) (from to : Place) (t : List Entry) (entry : Entry) → IsCube cube → IsSoundTrace cube o t → IsEntryOf cube (state_after_trace cube o t) entry
-    → AreInOrder cube o from to t → AreInOrder cube o from to (t ++ entry ∷ [])
+    → AreRisingIds cube o from to t → AreRisingIds cube o from to (t ++ entry ∷ [])
 order-made cube o from to t entry of stands e is =
     let s = state_after_trace cube o t in
     let made_entry : IsEntryOf cube s (entry_in cube s e.actor e.call) = record { actor = e.actor; wish = e.wish; call = e.call; by = e.by; is = refl } in
-    subst (λ entry. AreInOrder cube o from to (t ++ entry ∷ [])) (sym e.is)
+    subst (λ entry. AreRisingIds cube o from to (t ++ entry ∷ [])) (sym e.is)
     (order-entry cube o from to t of stands e.actor e.call made_entry (taken_for to.node (entry_in cube s e.actor e.call)) refl
     (λ given one. passed-by cube s of stands.sound from to e.actor e.wish e.call given e.by one)
     (is_receiver_stopped-stays cube s e.actor e.wish e.call to of stands.sound e.by) is)
@@ -86,7 +86,7 @@ order-made cube o from to t entry of stands e is =
 -- a trace that stands, and is in order between two places
 record IsSoundInOrder (cube : Cube) (o : CubeState) (from to : Place) (t : List Entry) : Type 0 where
   stands : IsSoundTrace cube o t
-  order : AreInOrder cube o from to t
+  order : AreRisingIds cube o from to t
 
 pub in_order : (cube : Cube) (o : CubeState) (t : List Entry) → IsCube cube → IsSound cube o → IsAloneFrom cube o t → IsInOrder o.standing t
 in_order cube o t of sound alone front is from to =

@@ -16,12 +16,13 @@ use Rattle.ce_model.specs.Saying.{says}
 use Rattle.ce_model.specs.Cube.{Cube, CubeState, IsCube, parcel_numbered}
 use Rattle.ce_model.specs.Order.{is_between, bytes_between, number_handed, bytes_handed}
 use Rattle.ce_model.specs.Sound.{numbers_of, IsHostItem, IsSound, IsSoundHost}
+use Rattle.ce_model.proofs.Subcubes.{find-passes}
 use Rattle.ce_solo.proofs.Lists.{IsOut, find-out}
 use Rattle.ce_solo.proofs.Items.{AreRising, named-mail, named-itself}
 use Rattle.ce_solo.proofs.Words.{HasMadeCall}
 use Rattle.ce_solo.proofs.Hears.{receiving_is}
 use Rattle.ce_solo.proofs.Records.{named_once}
-use Rattle.ce_solo.proofs.HandedOver.{member-of, find-passes, dead-of}
+use Rattle.ce_solo.proofs.HandedOver.{member-of, dead-of}
 use Rattle.ce_solo.proofs.Stopped.{is_receiver_stopped}
 use Rattle.ce_solo.proofs.Between.{found_bytes, between-other, one-between, none-between, between-first, between-receiver, none-earlier, handed-own}
 use Rattle.ce_solo.proofs.InOrder.{HasPassed, passes, hands, drops}

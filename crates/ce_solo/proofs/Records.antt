@@ -12,7 +12,7 @@ use Rattle.ce_model.specs.Answers.{is_among}
 use Rattle.ce_model.specs.Cube.{Cube}
 use Rattle.ce_model.specs.Sound.{is_start_of, is_kill_of, has_start, IsStartFirst, numbers_of, IsItemOf, AreNumbered, AreDistinct, IsSoundRecord}
 use Rattle.ce_solo.proofs.Counting.{count, count-nil, count-append}
-use Rattle.ce_solo.proofs.Lists.{all-append, all-weaker, all-filter, all-split, pairwise-append, count_by-cons, count_by-append, count_by-filter, count_by-agree, one_if-true, one_if-false, one_if-le, count_by-none, none-from_count, any-none, none-from_any, IsOut, find-out, with_appended, with_appended-is}
+use Rattle.ce_solo.proofs.Lists.{all-append, all-weaker, all-filter, all-split, pairwise-append, count_by-cons, count_by-append, count_by-filter, count_by-agree, truth_bit-true, truth_bit-false, truth_bit-le, count_by-none, none-from_count, any-none, none-from_any, IsOut, find-out, with_appended, with_appended-is}
 use Rattle.ce_solo.proofs.Items.{parcel_ids, ids-append, numbers-append, among-mails, all_numbers-filter, AreRising, rising-filter, start-mails, kill-mails, start_first-mails, start-append, start_first-append, start_first-after, start_first-filter, start_first-at, own-starts, own-kills, own-more, named-itself, named-start, named-kill, named-mail, start_can_be_given}
 
 abbrev pub record_with : List Item → List ℕ → List ℕ → Mark → NodeRecord
@@ -173,8 +173,8 @@ keeps-start cube sent r pid image node_record mark sound fresh within of_cube =
         own = all-append (IsItemOf cube r node_record') node_record.waiting_items items (own-more cube r node_record node_record' node_record.waiting_items more (λ q h. h) sound.own)
             ((among-last pid node_record.spawned_ids, of_cube), tt);
         one_start = λ q. elim (cases_eq q pid) [
-          | inl same ↦ omega (arith, subst (λ k. count_by (is_start_of k) node_record.waiting_items ≡ 0) (sym same) (count_by-none (is_start_of pid) node_record.waiting_items none), count_by-append (is_start_of q) node_record.waiting_items items, count_by-cons (is_start_of q) (start pid image) [], one_if-le (pid == q))
-          | inr differ ↦ omega (arith, sound.one_start q, count_by-append (is_start_of q) node_record.waiting_items items, count_by-cons (is_start_of q) (start pid image) [], one_if-false (pid == q) (ne_eqb pid q (λ e. differ (sym e))))
+          | inl same ↦ omega (arith, subst (λ k. count_by (is_start_of k) node_record.waiting_items ≡ 0) (sym same) (count_by-none (is_start_of pid) node_record.waiting_items none), count_by-append (is_start_of q) node_record.waiting_items items, count_by-cons (is_start_of q) (start pid image) [], truth_bit-le (pid == q))
+          | inr differ ↦ omega (arith, sound.one_start q, count_by-append (is_start_of q) node_record.waiting_items items, count_by-cons (is_start_of q) (start pid image) [], truth_bit-false (pid == q) (ne_eqb pid q (λ e. differ (sym e))))
         ];
         one_kill = λ q. omega (arith, sound.one_kill q, count_by-append (is_kill_of q) node_record.waiting_items items, count_by-cons (is_kill_of q) (start pid image) []);
         start_first = λ q. elim (cases_eq q pid) [
@@ -215,8 +215,8 @@ keeps-kill cube sent r pid node_record mark sound known fresh =
             (among-last pid node_record.killed_ids, tt);
         one_start = λ q. omega (arith, sound.one_start q, count_by-append (is_start_of q) node_record.waiting_items items, count_by-cons (is_start_of q) (kill pid) []);
         one_kill = λ q. elim (cases_eq q pid) [
-          | inl same ↦ omega (arith, subst (λ k. count_by (is_kill_of k) node_record.waiting_items ≡ 0) (sym same) (count_by-none (is_kill_of pid) node_record.waiting_items none), count_by-append (is_kill_of q) node_record.waiting_items items, count_by-cons (is_kill_of q) (kill pid) [], one_if-le (pid == q))
-          | inr differ ↦ omega (arith, sound.one_kill q, count_by-append (is_kill_of q) node_record.waiting_items items, count_by-cons (is_kill_of q) (kill pid) [], one_if-false (pid == q) (ne_eqb pid q (λ e. differ (sym e))))
+          | inl same ↦ omega (arith, subst (λ k. count_by (is_kill_of k) node_record.waiting_items ≡ 0) (sym same) (count_by-none (is_kill_of pid) node_record.waiting_items none), count_by-append (is_kill_of q) node_record.waiting_items items, count_by-cons (is_kill_of q) (kill pid) [], truth_bit-le (pid == q))
+          | inr differ ↦ omega (arith, sound.one_kill q, count_by-append (is_kill_of q) node_record.waiting_items items, count_by-cons (is_kill_of q) (kill pid) [], truth_bit-false (pid == q) (ne_eqb pid q (λ e. differ (sym e))))
         ];
         start_first = λ q. start_first-append q node_record.waiting_items items refl (sound.start_first q) ((λ h. refl), tt);
         ids = sound.ids;
@@ -312,7 +312,7 @@ start-taken cube sent r asking dead pid image node_record node_record' sound spa
       ap (count_by (is_start_of pid)) taken.out.whole,
       count_by-append (is_start_of pid) taken.out.before (start pid image ∷ taken.out.behind),
       count_by-cons (is_start_of pid) (start pid image) taken.out.behind,
-      one_if-true (pid == pid) here,
+      truth_bit-true (pid == pid) here,
       count_by-append (is_start_of pid) taken.out.before taken.out.behind,
     ) in
     let none = any-none (is_start_of pid) (taken.out.before ++ taken.out.behind) (none-from_count (is_start_of pid) (taken.out.before ++ taken.out.behind) others) in (

@@ -14,7 +14,7 @@ use Rattle.ce_model.specs.Cube.{Cube, CubeState, IsCube}
 use Rattle.ce_model.specs.Owners.{IsBlockOf, holdings}
 use Rattle.ce_model.specs.Sound.{is_start_of, is_kill_of, IsItemOf, IsHostItem, IsSoundRecord, IsSound}
 use Rattle.ce_solo.proofs.Counting.{hit, hit-self, count, count-cons, all-at_name, all-from_names, sum_run, sum_run-same, sum_run-add, sum_run-zero, sum_run-at, sum_run-part}
-use Rattle.ce_solo.proofs.Lists.{all-map, count_by-cons, one_if, one_if-true, one_if-false, all-weaker}
+use Rattle.ce_solo.proofs.Lists.{all-map, count_by-cons, truth_bit, truth_bit-true, truth_bit-false, all-weaker}
 use Rattle.ce_solo.proofs.Items.{parcel_ids}
 use Rattle.ce_solo.proofs.Records.{among-all, killed-spawned}
 use Rattle.ce_solo.proofs.Sending.{host_past}
@@ -26,10 +26,10 @@ use Rattle.ce_solo.proofs.Totals.{HeldName, names, names-total, count_at_node-is
 abbrev times : ℕ → List ℕ → ℕ
 times k ks = count_by (λ other. other == k) ks
 
-sum-one : (k n : ℕ) → k < n → sum_run (λ j. one_if (k == j)) 0 n ≡ 1
+sum-one : (k n : ℕ) → k < n → sum_run (λ j. truth_bit (k == j)) 0 n ≡ 1
 sum-one k n below =
-    sum_run-at (λ j. one_if (k == j)) k 0 n (omega arith) (omega arith) (λ j differ. one_if-false (k == j) (ne_eqb k j (λ e. differ (sym e))))
-    ∙ one_if-true (k == k) (eq-eqb k k refl)
+    sum_run-at (λ j. truth_bit (k == j)) k 0 n (omega arith) (omega arith) (λ j differ. truth_bit-false (k == j) (ne_eqb k j (λ e. differ (sym e))))
+    ∙ truth_bit-true (k == k) (eq-eqb k k refl)
 
 length-times : (ks : List ℕ) (n : ℕ) → AllByRecursion (λ k. k < n) ks → length ks ≡ sum_run (λ j. times j ks) 0 n
 length-times [] n all = sym (sum_run-zero (λ j. times j []) 0 n (λ k low high. refl))
@@ -38,8 +38,8 @@ length-times (k ∷ ks) n all =
       arith,
       length-times ks n all.1,
       sum-one k n all.0,
-      sum_run-add (λ j. one_if (k == j)) (λ j. times j ks) 0 n,
-      sum_run-same (λ j. times j (k ∷ ks)) (λ j. one_if (k == j) + times j ks) 0 n (λ j low high. count_by-cons (λ other. other == j) k ks),
+      sum_run-add (λ j. truth_bit (k == j)) (λ j. times j ks) 0 n,
+      sum_run-same (λ j. times j (k ∷ ks)) (λ j. truth_bit (k == j) + times j ks) 0 n (λ j low high. count_by-cons (λ other. other == j) k ks),
     )
 
 sum-le : (f : ℕ → ℕ) (from n : ℕ) → ((k : ℕ) → f k ≤ 1) → sum_run f from n ≤ n
@@ -75,7 +75,7 @@ slot_at_host dim id h = ap (λ b. if b then id.home else 2 ^ dim) (le-ltb id.hom
 same_name : (a b : BlockId) → a.home ≡ b.home → a.index ≡ b.index → 1 ≤ hit a b
 unfolding hit
 same_name a b h i =
-    omega (arith, ap one_if (and_from (a.home == b.home) (a.index == b.index) (eq-eqb a.home b.home h) (eq-eqb a.index b.index i)))
+    omega (arith, ap truth_bit (and_from (a.home == b.home) (a.index == b.index) (eq-eqb a.home b.home h) (eq-eqb a.index b.index i)))
 
 -- blocks of one number are the same
 same_number : (cube : Cube) (a b : BlockId) → IsCube cube → IsBlockOf cube.dim a → IsBlockOf cube.dim b → block_number cube.dim a ≡ block_number cube.dim b → 1 ≤ hit a b
@@ -107,7 +107,7 @@ other_numbers cube a (b ∷ ids) of block all none =
     omega (
       arith,
       count_by-cons (λ other. other == block_number cube.dim a) (block_number cube.dim b) (map (block_number cube.dim) ids),
-      one_if-false (block_number cube.dim b == block_number cube.dim a) (ne_eqb (block_number cube.dim b) (block_number cube.dim a) differ),
+      truth_bit-false (block_number cube.dim b == block_number cube.dim a) (ne_eqb (block_number cube.dim b) (block_number cube.dim a) differ),
       other_numbers cube a ids of block all.1 (omega (arith, none, count-cons a b ids)),
     )
 
@@ -123,10 +123,10 @@ numbers-once cube (a ∷ ids) k of all once =
           omega (
             arith,
             count_by-cons (λ other. other == k) n (map (block_number cube.dim) ids),
-            one_if-true (n == k) t,
+            truth_bit-true (n == k) t,
             subst (λ k. times k (map (block_number cube.dim) ids) ≡ 0) (eqb-true n k t) none,
           )
-      | inr f ↦ omega (arith, rest, count_by-cons (λ other. other == k) n (map (block_number cube.dim) ids), one_if-false (n == k) f)
+      | inr f ↦ omega (arith, rest, count_by-cons (λ other. other == k) n (map (block_number cube.dim) ids), truth_bit-false (n == k) f)
     ]
 
 -- blocks of a cube of which each stands once are as many at most as the cube has

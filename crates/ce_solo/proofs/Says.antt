@@ -5,13 +5,13 @@ use Rattle.rv_model.specs.declared.stop.Stop.TheVariants.{TurnSpent}
 use Rattle.rv_model.specs.Exec.{Outcome, next_state, call_state, stop_state}
 use Rattle.ce_model.specs.Limits.{turn_instructions}
 use Rattle.ce_model.specs.Space.{Space}
-use Rattle.ce_model.specs.Process.{moved_process}
+use Rattle.ce_model.specs.Process.{moved_process, instruction_outcome}
 use Rattle.ce_model.specs.Node.{Turn, Node, process_at, with_process}
 use Rattle.ce_model.specs.Kernel.{CallOutcome, continuation, departure, turn_conclusion, kernel}
-use Rattle.ce_model.specs.Saying.{Saying, idle_saying, saying_after_call, saying_after_instruction, instruction, turn_saying, saying_in, says}
+use Rattle.ce_model.specs.Saying.{Saying, idle_saying, saying_after_call, saying_after_instruction, turn_saying, saying_in, says}
 use Rattle.ce_model.specs.Sound.{IsSoundTurn}
 use Rattle.ce_solo.proofs.Windows.{IsSameHeld, same_held}
-use Rattle.ce_solo.proofs.Instructions.{IsLed, exec-led}
+use Rattle.ce_solo.proofs.Instructions.{IsLed, step_outcome-led}
 use Rattle.ce_solo.proofs.Nodes.{IsWell, HasBecome, well-turn, became-same, became-then}
 use Rattle.ce_solo.proofs.Words.{IsInItsTurn, HasMadeCall, HasEndedTurn, IsDone, in_turn-windows, goes-done, stops-done}
 use Rattle.ce_solo.proofs.Calls.{kernel-done}
@@ -93,9 +93,9 @@ unfolding turn_saying
 runs-said zero node turn enough well sound =
     asks-said node _ (stops-done node turn (process_at node turn.pid) (now_in_turn node turn well sound) TurnSpent)
 runs-said (suc left) node turn enough well sound =
-    instruction-said left node turn (instruction (process_at node turn.pid)) (omega (arith, enough))
+    instruction-said left node turn (instruction_outcome (process_at node turn.pid)) (omega (arith, enough))
     (λ node' turn' well' sound'. runs-said left node' turn' (omega (arith, enough)) well' sound') well sound
-    (exec-led (process_at node turn.pid).registers (process_at node turn.pid).pc (process_at node turn.pid).space)
+    (step_outcome-led (process_at node turn.pid).registers (process_at node turn.pid).pc (process_at node turn.pid).space)
 
 saying_in-said : (node : Node) (turn : Option Turn) → node.turn ≡ turn → IsWell turn node → IfSome turn IsSoundTurn → IsSaid node (saying_in node turn)
 saying_in-said node None none well sound = asks-said node node (record { became = became-same None node well; turn = none })

@@ -12,7 +12,7 @@ use Rattle.ce_model.specs.Answers.{is_among}
 use Rattle.ce_model.specs.Cube.{Cube, CubeState, state_after_trace}
 use Rattle.ce_model.specs.Sound.{is_start_of, is_kill_of, IsSound}
 use Rattle.ce_model.proofs.OneMore.{sent_items-more, spawned-more, killed-more}
-use Rattle.ce_solo.proofs.Lists.{all-front, all-back, count_by-cons, count_by-append, one_if, one_if-true, one_if-false, one_if-le, count_by-none, none-from_any}
+use Rattle.ce_solo.proofs.Lists.{all-front, all-back, count_by-cons, count_by-append, truth_bit, truth_bit-true, truth_bit-false, truth_bit-le, count_by-none, none-from_any}
 use Rattle.ce_solo.proofs.Items.{start-mails, kill-mails, own-starts, own-kills}
 use Rattle.ce_solo.proofs.Records.{among-last, among-other}
 use Rattle.ce_solo.proofs.Made.{IsNewItem, items-new}
@@ -21,36 +21,36 @@ use Rattle.ce_solo.proofs.Stands.{IsEntryOf}
 
 -- ---- one start or kill more
 
-none_more : (pid c : ℕ) (pids : List ℕ) → c ≤ one_if (is_among pid pids) → c + 0 ≤ one_if (is_among pid (pids ++ []))
-none_more pid c pids h = omega (arith, h, ap (λ xs. one_if (is_among pid xs)) (append-nil pids))
+none_more : (pid c : ℕ) (pids : List ℕ) → c ≤ truth_bit (is_among pid pids) → c + 0 ≤ truth_bit (is_among pid (pids ++ []))
+none_more pid c pids h = omega (arith, h, ap (λ xs. truth_bit (is_among pid xs)) (append-nil pids))
 
-one_more : (pid other c : ℕ) (pids : List ℕ) → c ≤ one_if (is_among pid pids) → is_among other pids ≡ false → c + one_if (other == pid) ≤ one_if (is_among pid (pids ++ other ∷ []))
+one_more : (pid other c : ℕ) (pids : List ℕ) → c ≤ truth_bit (is_among pid pids) → is_among other pids ≡ false → c + truth_bit (other == pid) ≤ truth_bit (is_among pid (pids ++ other ∷ []))
 one_more pid other c pids h fresh =
     elim (cases_eq pid other) [
       | inl same ↦
           let none : is_among pid pids ≡ false = ap (λ p. is_among p pids) same ∙ fresh in
           let now : is_among pid (pids ++ other ∷ []) ≡ true = ap (λ p. is_among p (pids ++ other ∷ [])) same ∙ among-last other pids in
-          omega (arith, h, one_if-false (is_among pid pids) none, one_if-true (is_among pid (pids ++ other ∷ [])) now, one_if-le (other == pid))
+          omega (arith, h, truth_bit-false (is_among pid pids) none, truth_bit-true (is_among pid (pids ++ other ∷ [])) now, truth_bit-le (other == pid))
       | inr differ ↦
-          omega (arith, h, ap one_if (among-other pid other pids differ), one_if-false (other == pid) (ne_eqb other pid (λ e. differ (sym e))))
+          omega (arith, h, ap truth_bit (among-other pid other pids differ), truth_bit-false (other == pid) (ne_eqb other pid (λ e. differ (sym e))))
     ]
 
 module _ (sent : ℕ) (node_record : NodeRecord) (r pid c : ℕ) where
   -- an item more, if any, whose id is a new one
-  one_if_new : (test : Item → Bool) (ids : List ℕ) (x : Item) (b : Bool) → test x ≡ (item_id x == pid) → (IsNewItem sent node_record x → is_among (item_id x) ids ≡ false)
-      → AllByRecursion (IsNewItem sent node_record) (if b then x ∷ [] else []) → c ≤ one_if (is_among pid ids)
-      → c + count_by test (if b then x ∷ [] else []) ≤ one_if (is_among pid (ids ++ map item_id (if b then x ∷ [] else [])))
-  one_if_new test ids x true same fresh new h = omega (arith, one_more pid (item_id x) c ids h (fresh new.0), count_by-cons test x [], ap one_if same)
-  one_if_new test ids x false same fresh new h = none_more pid c ids h
+  truth_bit_new : (test : Item → Bool) (ids : List ℕ) (x : Item) (b : Bool) → test x ≡ (item_id x == pid) → (IsNewItem sent node_record x → is_among (item_id x) ids ≡ false)
+      → AllByRecursion (IsNewItem sent node_record) (if b then x ∷ [] else []) → c ≤ truth_bit (is_among pid ids)
+      → c + count_by test (if b then x ∷ [] else []) ≤ truth_bit (is_among pid (ids ++ map item_id (if b then x ∷ [] else [])))
+  truth_bit_new test ids x true same fresh new h = omega (arith, one_more pid (item_id x) c ids h (fresh new.0), count_by-cons test x [], ap truth_bit same)
+  truth_bit_new test ids x false same fresh new h = none_more pid c ids h
 
-  starts_step : (what : What) → AllByRecursion (IsNewItem sent node_record) (starts_in r what) → c ≤ one_if (is_among pid node_record.spawned_ids)
-      → c + count_by (is_start_of pid) (starts_in r what) ≤ one_if (is_among pid (node_record.spawned_ids ++ start_ids_in r what))
-  starts_step (Spawn by image to true) new h = one_if_new (is_start_of pid) node_record.spawned_ids (start to.pid image) (to.node == r) refl (λ fresh. fresh) new h
+  starts_step : (what : What) → AllByRecursion (IsNewItem sent node_record) (starts_in r what) → c ≤ truth_bit (is_among pid node_record.spawned_ids)
+      → c + count_by (is_start_of pid) (starts_in r what) ≤ truth_bit (is_among pid (node_record.spawned_ids ++ start_ids_in r what))
+  starts_step (Spawn by image to true) new h = truth_bit_new (is_start_of pid) node_record.spawned_ids (start to.pid image) (to.node == r) refl (λ fresh. fresh) new h
   starts_step other new h = none_more pid c node_record.spawned_ids h
 
-  kills_step : (what : What) → AllByRecursion (IsNewItem sent node_record) (kills_in r what) → c ≤ one_if (is_among pid node_record.killed_ids)
-      → c + count_by (is_kill_of pid) (kills_in r what) ≤ one_if (is_among pid (node_record.killed_ids ++ kill_ids_in r what))
-  kills_step (Kill by to Killed) new h = one_if_new (is_kill_of pid) node_record.killed_ids (kill to.pid) (to.node == r) refl (λ fresh. fresh) new h
+  kills_step : (what : What) → AllByRecursion (IsNewItem sent node_record) (kills_in r what) → c ≤ truth_bit (is_among pid node_record.killed_ids)
+      → c + count_by (is_kill_of pid) (kills_in r what) ≤ truth_bit (is_among pid (node_record.killed_ids ++ kill_ids_in r what))
+  kills_step (Kill by to Killed) new h = truth_bit_new (is_kill_of pid) node_record.killed_ids (kill to.pid) (to.node == r) refl (λ fresh. fresh) new h
   kills_step other new h = none_more pid c node_record.killed_ids h
 
 no_starts-kills : (pid r : ℕ) (what : What) → count_by (is_start_of pid) (kills_in r what) ≡ 0
@@ -85,17 +85,17 @@ kills-to pid r entry =
 -- what was sent to a node has a start only of an id that was spawned, and of each one; and so with
 -- kills
 pub record HasSentOnce (o : Standing) (r pid : ℕ) (t : List Entry) : Type 0 where
-  pub starts : count_by (is_start_of pid) (sent_items o r t) ≤ one_if (is_among pid (spawned_ids o r t))
-  pub kills : count_by (is_kill_of pid) (sent_items o r t) ≤ one_if (is_among pid (killed_ids o r t))
+  pub starts : count_by (is_start_of pid) (sent_items o r t) ≤ truth_bit (is_among pid (spawned_ids o r t))
+  pub kills : count_by (is_kill_of pid) (sent_items o r t) ≤ truth_bit (is_among pid (killed_ids o r t))
 
 -- an item of the id waits only where the id is among these
 once_at : (test : Item → Bool) (pid : ℕ) (ids : List ℕ) (items : List Item) → count_by test items ≤ 1
-    → (is_among pid ids ≡ false → AllByRecursion (λ x. test x ≡ false) items) → count_by test (items ++ []) ≤ one_if (is_among pid (ids ++ []))
+    → (is_among pid ids ≡ false → AllByRecursion (λ x. test x ≡ false) items) → count_by test (items ++ []) ≤ truth_bit (is_among pid (ids ++ []))
 once_at test pid ids items once none =
     let all = ap (count_by test) (append-nil items) in
-    let same = ap (λ xs. one_if (is_among pid xs)) (append-nil ids) in
+    let same = ap (λ xs. truth_bit (is_among pid xs)) (append-nil ids) in
     elim (cases_Bool (is_among pid ids)) [
-      | inl t ↦ omega (arith, once, one_if-true (is_among pid ids) t, same, all)
+      | inl t ↦ omega (arith, once, truth_bit-true (is_among pid ids) t, same, all)
       | inr f ↦ omega (arith, count_by-none test items (none f), all)
     ]
 
@@ -126,14 +126,14 @@ once-more cube o r pid t entry once e =
         arith,
         more (is_start_of pid),
         starts-to pid r entry,
-        ap (λ xs. one_if (is_among pid xs)) (spawned-more o.standing r t entry),
+        ap (λ xs. truth_bit (is_among pid xs)) (spawned-more o.standing r t entry),
         starts_step s.standing.parcel_count node_record r pid (count_by (is_start_of pid) (sent_items o.standing r t)) entry.what starts once.starts,
       );
       kills = omega (
         arith,
         more (is_kill_of pid),
         kills-to pid r entry,
-        ap (λ xs. one_if (is_among pid xs)) (killed-more o.standing r t entry),
+        ap (λ xs. truth_bit (is_among pid xs)) (killed-more o.standing r t entry),
         kills_step s.standing.parcel_count node_record r pid (count_by (is_kill_of pid) (sent_items o.standing r t)) entry.what kills once.kills,
       );
     }

@@ -11,7 +11,7 @@ use Rattle.ce_model.specs.Sound.{IsSound}
 use Rattle.ce_model.proofs.Walked.{kept_by_each, each_of_front, each_behind}
 use Rattle.ce_model.proofs.AloneByEntries.{entries_of_alone}
 use Rattle.ce_solo.specs.Laws.{IsSentOnce, IsHandedOver}
-use Rattle.ce_solo.proofs.Lists.{one_if-le}
+use Rattle.ce_solo.proofs.Lists.{truth_bit-le}
 use Rattle.ce_solo.proofs.Stands.{IsSoundTrace, entry_of-next, stands-made, stands-nil, stands-each}
 use Rattle.ce_solo.proofs.SentOnce.{HasSentOnce, once-nil, once-more}
 use Rattle.ce_solo.proofs.HandedOver.{entry-taken, taken-for}
@@ -28,7 +28,7 @@ sent_once cube o t of sound alone r pid below =
     let e = entry_of-next cube o before entry next in
     record { stands = stands-made cube o before entry of now.stands e; once = once-more cube o r pid before entry now.once e })
     [] t (record { stands = stands-nil cube o sound; once = once-nil cube o r pid below sound }) (entries_of_alone cube o t alone) in
-    (omega (arith, all.once.starts, one_if-le (is_among pid (spawned_ids o.standing r t))), omega (arith, all.once.kills, one_if-le (is_among pid (killed_ids o.standing r t))))
+    (omega (arith, all.once.starts, truth_bit-le (is_among pid (spawned_ids o.standing r t))), omega (arith, all.once.kills, truth_bit-le (is_among pid (killed_ids o.standing r t))))
 
 -- the last entry of a front is the one that its actor made next
 pub last_next : (cube : Cube) (o : CubeState) (t before : List Entry) (entry : Entry) → IsAloneFrom cube o t → IsFront (before ++ entry ∷ []) t

@@ -13,7 +13,7 @@ use Rattle.ce_model.specs.Space.{window_start, has_unused_window, mapped_space, 
 use Rattle.ce_model.specs.Process.{Process, argument, with_answer, is_stopped}
 use Rattle.ce_model.specs.Node.{Turn, Node, process_at, is_place, with_stopped_process, Call, take_call, send_call, spawn_call, kill_call, note_call, take_call_of}
 use Rattle.ce_model.specs.Kernel.{CallOutcome, continuation, departure, turn_conclusion, return_outcome, leave_outcome, read_outcome, with_space, process_left_behind, map_outcome, xmalloc, free_outcome, xfree, xlength, is_target, place_named, send_outcome, xsend}
-use Rattle.ce_model.specs.Sound.{is_unborn, is_running, is_polling, IsSoundTurn, AreInOrder}
+use Rattle.ce_model.specs.Sound.{is_unborn, is_running, is_polling, IsSoundTurn, AreRisingIds}
 use Rattle.ce_solo.proofs.Counting.{hit-self, count, count-nil, count-one, count-cons, count-append, count-put, rising-put}
 use Rattle.ce_solo.proofs.Windows.{IsSameHeld, ids-mapped, count-unmapped, named-of}
 use Rattle.ce_solo.proofs.Nodes.{polls, IsWell, HasBecome, changed_to, change-became, once_together, stop-became}
@@ -41,19 +41,19 @@ call_ids (send_call pid to bytes) = map (λ target. target.1) to
 call_ids other = []
 
 -- a call that this node can make
-abbrev pub IsCallOf : Node → Call → Type 0
-IsCallOf node (take_call asking dead poller) = (take_call asking dead poller ≡ take_call_of node) × (node.turn ≡ None)
-IsCallOf node (send_call pid to bytes) = AllByRecursion (λ target. is_target node target.0 ≡ true) to
-IsCallOf node (spawn_call pid image to) = (image < node.images) × (is_place node.dim to ≡ true)
-IsCallOf node (kill_call pid to) = is_place node.dim to ≡ true
-IsCallOf node (note_call pid word) = Unit {0}
-IsCallOf node other = ⊥
+abbrev pub IsCallOfNode : Node → Call → Type 0
+IsCallOfNode node (take_call asking dead poller) = (take_call asking dead poller ≡ take_call_of node) × (node.turn ≡ None)
+IsCallOfNode node (send_call pid to bytes) = AllByRecursion (λ target. is_target node target.0 ≡ true) to
+IsCallOfNode node (spawn_call pid image to) = (image < node.images) × (is_place node.dim to ≡ true)
+IsCallOfNode node (kill_call pid to) = is_place node.dim to ≡ true
+IsCallOfNode node (note_call pid word) = Unit {0}
+IsCallOfNode node other = ⊥
 
 -- what a node becomes that makes a call
 pub record HasMadeCall (node node' : Node) (call : Call) : Type 0 where
   pub became : HasBecome node'.turn node node' [] (call_ids call)
   pub turn : IfSome node'.turn IsSoundTurn
-  pub of_node : IsCallOf node' call
+  pub of_node : IsCallOfNode node' call
 
 -- what a node becomes whose turn goes on
 pub record IsGoingOn (node node' : Node) (turn' : Turn) : Type 0 where
@@ -87,7 +87,7 @@ module _ (node : Node) (turn : Turn) (p : Process) (c : IsInItsTurn node turn p)
 
   -- the process runs on with other registers and another memory, and the store is as given
   pub runs-became : (turn' : Turn) (turn'' : Option Turn) (p' : Process) (store : List BlockId) (gone : List BlockId) → turn'.pid ≡ turn.pid
-      → p'.status ≡ p.status → length p'.registers ≡ REGISTER_COUNT → length p'.space.windows ≤ window_count → AreInOrder store
+      → p'.status ≡ p.status → length p'.registers ≡ REGISTER_COUNT → length p'.space.windows ≤ window_count → AreRisingIds store
       → ((id : BlockId) → count id store + count id (mapped_ids p'.space) + count id gone ≡ count id node.store + count id (mapped_ids p.space))
       → HasBecome (Some turn') node (changed_to node turn.pid p' store node.polling_ids turn'') [] gone
   runs-became turn' turn'' p' store gone same status registers windows rising blocks =
@@ -114,7 +114,7 @@ module _ (node : Node) (turn : Turn) (p : Process) (c : IsInItsTurn node turn p)
       (not_others.0 ∙ sym born_before) (λ h. absurd (both_ways _ going_before h))
 
   pub goes-done : (p' : Process) (store : List BlockId) → p'.status ≡ p.status → length p'.registers ≡ REGISTER_COUNT → length p'.space.windows ≤ window_count
-      → AreInOrder store → ((id : BlockId) → count id store + count id (mapped_ids p'.space) ≡ count id node.store + count id (mapped_ids p.space))
+      → AreRisingIds store → ((id : BlockId) → count id store + count id (mapped_ids p'.space) ≡ count id node.store + count id (mapped_ids p.space))
       → IsGoingOn node (changed_to node turn.pid p' store node.polling_ids node.turn) turn
   goes-done p' store status registers windows rising blocks = record {
     became = runs-became turn node.turn p' store [] refl status registers windows rising (λ id. omega (arith, blocks id, count-nil id));
@@ -129,9 +129,9 @@ module _ (node : Node) (turn : Turn) (p : Process) (c : IsInItsTurn node turn p)
       goes-done (with_answer value p) node.store refl (answered_length value p c.registers) in_turn-windows c.well.store (λ id. refl)
 
   pub leaves-done : (p' : Process) (store : List BlockId) (call : Call) → p'.status ≡ p.status → length p'.registers ≡ REGISTER_COUNT
-      → length p'.space.windows ≤ window_count → AreInOrder store
+      → length p'.space.windows ≤ window_count → AreRisingIds store
       → ((id : BlockId) → count id store + count id (mapped_ids p'.space) + count id (call_ids call) ≡ count id node.store + count id (mapped_ids p.space))
-      → IsCallOf (changed_to node turn.pid p' store node.polling_ids (Some turn)) call
+      → IsCallOfNode (changed_to node turn.pid p' store node.polling_ids (Some turn)) call
       → HasMadeCall node (changed_to node turn.pid p' store node.polling_ids (Some turn)) call
   leaves-done p' store call status registers windows rising blocks of_node = record {
     became = runs-became turn (Some turn) p' store (call_ids call) refl status registers windows rising blocks;
@@ -159,7 +159,7 @@ module _ (node : Node) (turn : Turn) (p : Process) (c : IsInItsTurn node turn p)
       let block : Block = record { id = id; bytes = replicate len 0 } in
       let p' : Process = with_answer (window_start (length p.space.windows)) (with_space p (mapped_space block p.space)) in
       goes-done p' store refl (answered_length (window_start (length p.space.windows)) p c.registers)
-      (omega (arith, length-append p.space.windows (Some block ∷ []))) (subst AreInOrder e c.well.store).1
+      (omega (arith, length-append p.space.windows (Some block ∷ []))) (subst AreRisingIds e c.well.store).1
       (λ name. omega (arith, ap (count name) e, count-cons name id store, ap (count name) (ids-mapped block p.space), count-append name (mapped_ids p.space) (id ∷ []), count-one name id))
 
   pub xmalloc-done : IsDone node (xmalloc node turn p)

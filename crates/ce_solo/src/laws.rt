@@ -9,7 +9,7 @@ pub fn fresh_is_sound_law()
 {}
 
 /// What a trace leaves is sound again, if the cube was sound at its beginning.
-pub fn stays_sound_law()
+pub fn states_stay_sound_law()
     ensures law { StatesStaySound }
 {}
 
@@ -32,7 +32,7 @@ pub fn messages_are_in_order_law()
 
 /// A trace can be cut: what the cube gives alone from what the first part left, it gives behind
 /// that part.
-pub fn goes_on_law()
+pub fn traces_go_on_law()
     ensures law { TracesGoOn }
 {}
 
@@ -58,12 +58,12 @@ pub fn lawful_is_legal_law()
 /// Two views of one cube, of one lawful history or of two, are the same where its host was asked
 /// the same and its actors acted in the same order, whatever others did and wherever on its machine
 /// the cube lies.
-pub fn same_trace_law()
+pub fn views_are_same_law()
     ensures law { ViewsAreSame }
 {}
 
 /// What fits a lawful history fits still behind one more lawful entry of another user, and behind
 /// one of another actor of the same user that is not made alone.
-pub fn still_fits_law()
+pub fn requests_still_fit_law()
     ensures law { RequestsStillFit }
 {}

@@ -6,7 +6,7 @@
 mod laws;
 
 pub use laws::{
-    blocks_have_one_owner_law, fresh_is_sound_law, goes_on_law, lawful_is_legal_law,
-    messages_are_in_order_law, queues_are_bounded_law, renamed_nodes_agree_law, same_trace_law,
-    stays_sound_law, still_fits_law, views_are_alone_law,
+    blocks_have_one_owner_law, fresh_is_sound_law, lawful_is_legal_law, messages_are_in_order_law,
+    queues_are_bounded_law, renamed_nodes_agree_law, requests_still_fit_law, states_stay_sound_law,
+    traces_go_on_law, views_are_alone_law, views_are_same_law,
 };

@@ -6,19 +6,14 @@ use Rattle.ce_model.specs.declared.topology.TheConstants.{HOST}
 use Rattle.ce_model.specs.Lists.{IsFront}
 use Rattle.ce_lock.specs.declared.who.Who.{Who}
 use Rattle.ce_lock.specs.Entries.{entries_of}
-use Rattle.ce_lock.specs.Meanings.{Meanings}
 use Rattle.ce_lock.specs.Sitting.{SeatFacts, BookFacts, IsSameSeat, IsNewHead, who, seen_history, earlier, mine, out}
 use Rattle.ce_tally.specs.declared.tally.Addition.{Addition}
-use Rattle.ce_tally.specs.Rows.{IsOnly, HasAddition, HasAdded, IsFreshHead, additions_of}
+use Rattle.ce_tally.specs.Rows.{IsOnly, HasAddition, HasAdded, additions_of}
 
 module _ {O : Type 0} (book : BookFacts O) where
-  -- a new head is fresh
-  pub fresh : {F : Type 0} (m : Meanings O Addition F) (family : ℕ) (s : SeatFacts O Addition) → IsNewHead m book family s → IsFreshHead book family s
-  fresh m family s new = record { of_book = new.of_book; actor = new.actor; nobody_out = new.nobody_out; nothing_earlier = new.nothing_earlier; nothing_made = new.nothing_made }
-
-  -- a fresh head has added its first number
+  -- a new head has added its first number
   pub added_first : (family number : ℕ) (s t : SeatFacts O Addition) (e : Addition)
-      → IsFreshHead book family s → IsSameSeat s t → out t ≡ out s → mine t ≡ mine s ++ e ∷ [] → e.number ≡ number → HasAdded book family number t
+      → IsNewHead book family s → IsSameSeat s t → out t ≡ out s → mine t ≡ mine s ++ e ∷ [] → e.number ≡ number → HasAdded book family number t
   added_first family number s t e new same out_is mine_is number_is = record {
     of_book = same.name ∙ new.of_book;
     actor = same.actor ∙ new.actor;

@@ -34,12 +34,3 @@ pub record HasAdded {O : Type 0} (book : BookFacts O) (family number : ℕ)
   pub nobody_out : out s ≡ []
   pub nothing_earlier : earlier s ≡ []
   pub only : IsOnly number (mine s)
-
--- the seat is that of the family's head, of the book, and nothing was done with it
-pub record IsFreshHead {O : Type 0} (book : BookFacts O) (family : ℕ)
-    (s : SeatFacts O Addition) : Type 0 where
-  pub of_book : IsSeatOf book s
-  pub actor : who s ≡ record { family = family; actor = HOST }
-  pub nobody_out : out s ≡ []
-  pub nothing_earlier : earlier s ≡ []
-  pub nothing_made : mine s ≡ []

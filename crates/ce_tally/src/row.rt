@@ -2,9 +2,9 @@
 ghost use Rattle.std.specs.Prelude.{◌≡◌, IfSome};
 ghost use Rattle.ce_model.specs.declared.topology.TheConstants.{HOST};
 ghost use Rattle.ce_model.specs.Lists.{IsFront};
-ghost use Rattle.ce_lock.specs.Sitting.{seen_history};
+ghost use Rattle.ce_lock.specs.Sitting.{IsNewHead, seen_history};
 ghost use Rattle.ce_tally.specs.Sums.{IsTallied};
-ghost use Rattle.ce_tally.specs.Rows.{HasAdded, HasAddition, IsFreshHead, IsOnly, additions_of};
+ghost use Rattle.ce_tally.specs.Rows.{HasAdded, HasAddition, IsOnly, additions_of};
 
 use crate::tally::{Add, Tally};
 use ce_lock::{Book, Seat};
@@ -79,8 +79,8 @@ fn both_call<R: Wait>(rt: &R, alloc: Global) -> Option<TallyMeeting>
 /// A fresh book of two families, and its heads. `None` where there is no memory.
 pub fn two_heads(alloc: Global) -> Option<(Book<Tally>, Seat<Tally>, Seat<Tally>)>
     ensures families { IfSome result (λ r. r.0.families ≡ 2) }
-    ensures first_head { IfSome result (λ r. IsFreshHead r.0 0 r.1) }
-    ensures second_head { IfSome result (λ r. IsFreshHead r.0 1 r.2) }
+    ensures first_head { IfSome result (λ r. IsNewHead r.0 0 r.1) }
+    ensures second_head { IfSome result (λ r. IsNewHead r.0 1 r.2) }
 {
     let Ok((book, mut heads)) = Book::new(alloc, Tally::new(alloc), 2) else {
         return None;

@@ -8,8 +8,8 @@ use Rattle.ce_text.specs.Bytes.{is_blank}
 use Rattle.ce_text.specs.Line.{cut_parts, with_front_byte, without_front_blanks, without_end_blanks}
 
 -- the cut at a place, if it is within the list
-abbrev made : ℕ → List ℕ → Bool → List ℕ × Option (List ℕ)
-made place bytes within = (take place bytes, cond within (Some (drop (place + 1) bytes)) None)
+abbrev bounded_parts : ℕ → List ℕ → Bool → List ℕ × Option (List ℕ)
+bounded_parts place bytes within = (take place bytes, cond within (Some (drop (place + 1) bytes)) None)
 
 abbrev pub uncut_parts : List ℕ → List ℕ × Option (List ℕ)
 uncut_parts bytes = (bytes, None)
@@ -24,7 +24,7 @@ whole : (n : ℕ) (bytes : List ℕ) → drop n bytes ≡ take (length bytes - n
 whole n bytes = sym (take_all (length bytes - n) (drop n bytes) (omega (arith, length-drop n bytes)))
 
 cut_by : (place : ℕ) (bytes : List ℕ) (within : Bool) → ltb place (length bytes) ≡ within → (found : Option ℕ) → found ≡ cond within (Some place) None
-    → MatchOption found (made place bytes within ≡ uncut_parts bytes) (λ k. made place bytes within ≡ parts_at_place bytes k)
+    → MatchOption found (bounded_parts place bytes within ≡ uncut_parts bytes) (λ k. bounded_parts place bytes within ≡ parts_at_place bytes k)
 cut_by place bytes true lt None e = absurd cc
 cut_by place bytes true lt (Some k) e =
     let same : place ≡ k = cc in

@@ -7,13 +7,13 @@ ghost use Rattle.ce_text.specs.Line.{cut_parts, without_front_blanks, without_en
 
 use crate::bytes::is_blank;
 
-fn place_of(bytes: &[u8], mark: u8) -> Option<usize>
+fn index_of(bytes: &[u8], mark: u8) -> Option<usize>
     ensures { result ≡ position (λ byte. byte == mark) bytes.now }
 {
     bytes.iter().position(|byte| *byte == mark)
 }
 
-fn place_of_blank(bytes: &[u8]) -> Option<usize>
+fn index_of_blank(bytes: &[u8]) -> Option<usize>
     ensures { result ≡ position is_blank bytes.now }
 {
     bytes.iter().position(|byte| is_blank(*byte))
@@ -25,9 +25,9 @@ pub fn cut_at(bytes: &[u8], mark: u8) -> (&[u8], Option<&[u8]>)
         ≡ cut_parts (λ byte. byte == mark) bytes.now }
     ensures shorter { IfSome result.1 (λ rest. length rest.now < length bytes.now) }
 {
-    match place_of(bytes, mark) {
+    match index_of(bytes, mark) {
         None => (bytes, None),
-        Some(place) => (&bytes[..place], Some(&bytes[place + 1..])),
+        Some(index) => (&bytes[..index], Some(&bytes[index + 1..])),
     }
 }
 
@@ -37,9 +37,9 @@ pub fn cut_at_blank(bytes: &[u8]) -> (&[u8], Option<&[u8]>)
         ≡ cut_parts is_blank bytes.now }
     ensures shorter { IfSome result.1 (λ rest. length rest.now < length bytes.now) }
 {
-    match place_of_blank(bytes) {
+    match index_of_blank(bytes) {
         None => (bytes, None),
-        Some(place) => (&bytes[..place], Some(&bytes[place + 1..])),
+        Some(index) => (&bytes[..index], Some(&bytes[index + 1..])),
     }
 }
 

@@ -32,7 +32,8 @@ impl<T: Copy> NameTable<T> {
         self.meanings.get(name).copied()
     }
 
-    /// Gives a name a meaning, in place of any that it had.
+    /// Gives a name a meaning, in place of any that it had. `AllocError` may come at
+    /// any time.
     pub fn define(&mut self, name: &[u8], meaning: T) -> Result<(), AllocError>
         ensures { OnOk result (meanings_of self.new
             ≡ update bytes_eq (meanings_of self.old) name.now (Some meaning)) }

@@ -6,7 +6,8 @@ ghost use Rattle.std.specs.Char.{digit_value};
 ghost use Rattle.ce_text.specs.Number.{are_digits, number_of_digits};
 
 /// The number that digits of a base from 2 to 16 write, letters of either case, and `None` where
-/// they are no digits, none at all, or write more than `greatest`. Leading zeros are allowed.
+/// they are no digits, none at all, or write more than `greatest`, which is below 2^32. Leading
+/// zeros are allowed.
 #[tactic(auto, unfolding(crate::specs::Number::number_of_digits))]
 pub fn number_of_digits(digits: &[u8], base: u32, greatest: u64) -> Option<u64>
     requires least_base { 2 ≤ base }

@@ -25,7 +25,7 @@ pub(crate) fn push_command(
         ≡ text.old.items ++ joined_words (command_words script.now command.now)) }
 {
     match command {
-        Command::Getcube(dim) => push_numbered(text, Verb::Getcube, *dim),
+        Command::Getcube(dim) => push_verb_with_number(text, Verb::Getcube, *dim),
         Command::Peek => push_verb(text, Verb::Peek),
         Command::Freecube => push_verb(text, Verb::Freecube),
         Command::Spawn(image, to) => {
@@ -33,14 +33,14 @@ pub(crate) fn push_command(
             push_word(text, image_name(script, *image))?;
             push_place_words(text, *to)
         }
-        Command::Kill(to) => push_placed(text, Verb::Kill, *to),
+        Command::Kill(to) => push_verb_with_place(text, Verb::Kill, *to),
         Command::Send(to, bytes) => {
-            push_placed(text, Verb::Send, *to)?;
+            push_verb_with_place(text, Verb::Send, *to)?;
             push_data(text, bytes.as_slice())
         }
-        Command::Run(count) => push_numbered(text, Verb::Run, *count),
-        Command::Recv(count) => push_numbered(text, Verb::Recv, *count),
-        Command::Dump(place) => push_placed(text, Verb::Dump, *place),
+        Command::Run(count) => push_verb_with_number(text, Verb::Run, *count),
+        Command::Recv(count) => push_verb_with_number(text, Verb::Recv, *count),
+        Command::Dump(place) => push_verb_with_place(text, Verb::Dump, *place),
         Command::Trace => push_verb(text, Verb::Trace),
     }
 }
@@ -53,7 +53,7 @@ fn push_verb(text: &mut Vec<u8>, verb: Verb) -> Result<(), AllocError>
 }
 
 /// A verb with a number.
-fn push_numbered(text: &mut Vec<u8>, verb: Verb, number: u32) -> Result<(), AllocError>
+fn push_verb_with_number(text: &mut Vec<u8>, verb: Verb, number: u32) -> Result<(), AllocError>
     ensures { OnOk result
         (text.new.items ≡ text.old.items ++ (verb_word verb ++ (space ∷ decimal number))) }
 {
@@ -62,7 +62,7 @@ fn push_numbered(text: &mut Vec<u8>, verb: Verb, number: u32) -> Result<(), Allo
 }
 
 /// A verb with a place.
-fn push_placed(text: &mut Vec<u8>, verb: Verb, place: Place) -> Result<(), AllocError>
+fn push_verb_with_place(text: &mut Vec<u8>, verb: Verb, place: Place) -> Result<(), AllocError>
     ensures { OnOk result
         (text.new.items ≡ text.old.items ++ (verb_word verb ++ spaced_words (place_words place))) }
 {

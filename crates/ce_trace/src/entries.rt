@@ -146,7 +146,7 @@ fn push_spawn(
     push_with_number(text, b" spawn", pid)?;
     push_word(text, image_name(script, image))?;
     push_place_word(text, to)?;
-    push_fresh(text, fresh)
+    push_freshness(text, fresh)
 }
 
 /// What a process asked to end.
@@ -185,11 +185,11 @@ fn push_take(
     push_with_number(text, b" take", asking)?;
     push_number(text, u64::from(dead))?;
     push_some_number(text, poller.map(u64::from))?;
-    push_given(text, script, given)
+    push_take_result(text, script, given)
 }
 
 /// Whether a process was started, with a space before the word.
-fn push_fresh(text: &mut Vec<u8>, fresh: bool) -> Result<(), AllocError>
+fn push_freshness(text: &mut Vec<u8>, fresh: bool) -> Result<(), AllocError>
     ensures { OnOk result (text.new.items
         ≡ text.old.items ++ (space ∷ (if fresh then codes "ok" else codes "used"))) }
 {
@@ -243,7 +243,11 @@ fn push_target(
 }
 
 /// What a node is given, with a space before each word.
-fn push_given(text: &mut Vec<u8>, script: &Script, given: TakeResult) -> Result<(), AllocError>
+fn push_take_result(
+    text: &mut Vec<u8>,
+    script: &Script,
+    given: TakeResult,
+) -> Result<(), AllocError>
     ensures { OnOk result (text.new.items
         ≡ text.old.items ++ spaced_words (given_words script.now given)) }
 {

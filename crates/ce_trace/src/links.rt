@@ -13,8 +13,8 @@ pub(crate) fn links_of(alloc: Global, history: &[Entry]) -> Result<Vec<usize>, A
 {
     let mut links = Vec::new(alloc);
     let mut nearest_entries = BTreeMap::new(alloc);
-    for place in (0..history.len()).rev() {
-        let next = nearest_entries.insert(history[place].user, history.len() - place)?;
+    for index in (0..history.len()).rev() {
+        let next = nearest_entries.insert(history[index].user, history.len() - index)?;
         links.push(next.unwrap_or(0))?;
     }
     Ok(links)

@@ -32,7 +32,7 @@ pub(crate) fn push_reply(
             push(text, b"granted")?;
             push_subcube(text, *sub)
         }
-        Answer::Peeked(peek_result) => push_peeked(text, run_record, peek_result),
+        Answer::Peeked(peek_result) => push_peek_result(text, run_record, peek_result),
         Answer::Freed => push(text, b"freed"),
         Answer::Ok => push(text, b"ok"),
         Answer::NoPlace => push(text, b"no place"),
@@ -62,7 +62,7 @@ fn push_message(text: &mut Vec<u8>, from: Place, bytes: &Bytes) -> Result<(), Al
 }
 
 /// How many nodes are free, and which cubes are held.
-fn push_peeked(
+fn push_peek_result(
     text: &mut Vec<u8>,
     run_record: &Record,
     peek_result: &PeekResult,

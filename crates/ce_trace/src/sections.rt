@@ -31,9 +31,9 @@ pub(crate) fn push_sections(
         ≡ text.old.items ++ sections_text script.now run_record.now 0 history.now) }
 {
     let mut number = 0;
-    for (place, entry) in history.iter().enumerate() {
+    for (index, entry) in history.iter().enumerate() {
         if let Some(grant) = entry_grant_numbered(entry, number) {
-            let next = links[history.len() - place - 1];
+            let next = links[history.len() - index - 1];
             push_head(text, run_record, &grant)?;
             push_trace(text, script, history, links, &grant, next)?;
             number += 1;

@@ -18,14 +18,14 @@ fn push_stop(text: &mut Vec<u8>, cause: Stop) -> Result<(), AllocError>
         Stop::Exited(code) => push_with_number(text, b" exited", code),
         Stop::Killed => push(text, b" killed"),
         Stop::Illegal(pc, word) => push_illegal(text, pc, word),
-        Stop::Fetch(pc) => push_at(text, b" fetch", pc),
-        Stop::Target(pc) => push_at(text, b" target", pc),
-        Stop::Misaligned(address) => push_at(text, b" misaligned", address),
-        Stop::Unmapped(address) => push_at(text, b" unmapped", address),
-        Stop::Gone(address) => push_at(text, b" gone", address),
-        Stop::PastEnd(address) => push_at(text, b" past end", address),
-        Stop::NotABlock(address) => push_at(text, b" not a block", address),
-        Stop::Break(pc) => push_at(text, b" break", pc),
+        Stop::Fetch(pc) => push_cause_with_address(text, b" fetch", pc),
+        Stop::Target(pc) => push_cause_with_address(text, b" target", pc),
+        Stop::Misaligned(address) => push_cause_with_address(text, b" misaligned", address),
+        Stop::Unmapped(address) => push_cause_with_address(text, b" unmapped", address),
+        Stop::Gone(address) => push_cause_with_address(text, b" gone", address),
+        Stop::PastEnd(address) => push_cause_with_address(text, b" past end", address),
+        Stop::NotABlock(address) => push_cause_with_address(text, b" not a block", address),
+        Stop::Break(pc) => push_cause_with_address(text, b" break", pc),
         Stop::NoCall(number) => push_with_number(text, b" no call", number),
         Stop::TurnSpent => push(text, b" turn spent"),
         Stop::WindowsSpent => push(text, b" windows spent"),
@@ -33,7 +33,7 @@ fn push_stop(text: &mut Vec<u8>, cause: Stop) -> Result<(), AllocError>
 }
 
 /// A cause that comes with an address.
-fn push_at(text: &mut Vec<u8>, cause: &[u8], address: u32) -> Result<(), AllocError>
+fn push_cause_with_address(text: &mut Vec<u8>, cause: &[u8], address: u32) -> Result<(), AllocError>
     ensures { OnOk result
         (text.new.items ≡ text.old.items ++ (cause.now ++ (space ∷ word_text address))) }
 {
@@ -46,7 +46,7 @@ fn push_illegal(text: &mut Vec<u8>, pc: u32, word: u32) -> Result<(), AllocError
     ensures { OnOk result
         (text.new.items ≡ text.old.items ++ spaced_words (stop_words (Stop.Illegal pc word))) }
 {
-    push_at(text, b" illegal", pc)?;
+    push_cause_with_address(text, b" illegal", pc)?;
     push_address(text, word)
 }
 

@@ -23,13 +23,13 @@ pub fn write_summary(alloc: Global, seed: u32, run_record: &Record) -> Result<Ve
     push_number(&mut text, u64::from(seed))?;
     push_line_feed(&mut text)?;
     for user in run_record.users.as_slice() {
-        push_received(&mut text, run_record, user)?;
+        push_recv_answer(&mut text, run_record, user)?;
     }
     Ok(text)
 }
 
 /// A user, and what its `recv` was answered.
-fn push_received(
+fn push_recv_answer(
     text: &mut Vec<u8>,
     run_record: &Record,
     user: &UserRecord,

@@ -15,6 +15,7 @@ use ce_model::{
 };
 use ce_script::{Name, NamedImage, Record, Script, UserRecord};
 use rv_image::Image;
+use rv_model::PRIVATE_START;
 use sqlite_items::Items;
 use std::alloc::{AllocError, Global};
 use std::test::Fail;
@@ -40,7 +41,7 @@ fn name(alloc: Global, text: &str) -> Result<Name, NoMemory>
 
 #[tactic(auto, unfolding(ce_script::specs::Names::is_name, ce_script::specs::Names::name_room, ce_text::specs::Name::is_name))]
 fn hello(alloc: Global) -> Result<NamedImage, Fail> {
-    let image = Image::of_parts(0x1_0000, Vec::from_slice(alloc, &[0x73, 0, 0, 0])?, 0)?;
+    let image = Image::of_parts(PRIVATE_START, Vec::from_slice(alloc, &[0x73, 0, 0, 0])?, 0)?;
     let name = name(alloc, "hello")?;
     Ok(NamedImage { name, image })
 }
@@ -65,7 +66,7 @@ fn alice(alloc: Global, done: Vec<(Command, Answer)>) -> Result<UserRecord, NoMe
 }
 
 /// The record of one user, alice.
-fn of_alice(
+fn alice_record(
     alloc: Global,
     done: Vec<(Command, Answer)>,
     history: Vec<Entry>,
@@ -84,17 +85,17 @@ fn block(home: u32, index: u32) -> BlockId {
     BlockId { home, index }
 }
 
-fn of_host(user: u32, what: What) -> Entry {
-    of_node(user, HOST, what)
+fn host_entry(user: u32, what: What) -> Entry {
+    node_entry(user, HOST, what)
 }
 
-fn of_node(user: u32, actor: u32, what: What) -> Entry {
+fn node_entry(user: u32, actor: u32, what: What) -> Entry {
     Entry { user, actor, what }
 }
 
 fn grant_entry(user: u32) -> Entry {
     let sub = Some(WHOLE);
-    of_host(user, What::Getcube { dim: 0, sub })
+    host_entry(user, What::Getcube { dim: 0, sub })
 }
 
 fn spawn_what(pid: u32, to: Place, fresh: bool) -> What {
@@ -116,7 +117,7 @@ fn take_what(asking: u32, dead: u32, poller: Option<u32>, given: TakeResult) -> 
 }
 
 fn look(found: LookResult) -> Entry {
-    of_host(0, What::Look { found })
+    host_entry(0, What::Look { found })
 }
 
 #[tactic(auto, using(ce_model::specs::Limits::block_room_lem))]
@@ -145,7 +146,7 @@ fn report(
     done: Vec<(Command, Answer)>,
     history: Vec<Entry>,
 ) -> Result<Vec<u8>, Fail> {
-    let run_record = of_alice(alloc, done, history)?;
+    let run_record = alice_record(alloc, done, history)?;
     let script = script(alloc, Some(0))?;
     Ok(write_report(alloc, &script, &run_record)?)
 }
@@ -162,11 +163,11 @@ fn history_of_hello(alloc: Global) -> Result<Vec<Entry>, AllocError> {
     let start = TakeResult::Start { pid: 0, image: 0 };
     Ok(vec![in alloc;
         grant_entry(0),
-        of_host(0, spawn_what(0, place(0, 0), true)),
-        of_host(0, What::Arm { count: 10 }),
-        of_node(0, 0, take_what(0, 0, None, start)),
-        of_node(0, 0, What::Note { pid: 0, word: 42 }),
-        of_node(0, 0, take_what(0, 1, None, TakeResult::Idle)),
+        host_entry(0, spawn_what(0, place(0, 0), true)),
+        host_entry(0, What::Arm { count: 10 }),
+        node_entry(0, 0, take_what(0, 0, None, start)),
+        node_entry(0, 0, What::Note { pid: 0, word: 42 }),
+        node_entry(0, 0, take_what(0, 1, None, TakeResult::Idle)),
         look(LookResult::Quiet),
     ]?)
 }
@@ -227,11 +228,11 @@ fn two_cubes(alloc: Global) -> Result<Vec<Entry>, NoMemory> {
     let sent = send(alloc, &[(place(0, 0), block(HOST_HOME, 0))], &[0xAA])?;
     let history = vec![in alloc;
         grant_entry(0),
-        of_host(0, sent),
-        of_host(0, What::Drain),
-        of_host(0, What::Freecube),
+        host_entry(0, sent),
+        host_entry(0, What::Drain),
+        host_entry(0, What::Freecube),
         grant_entry(1),
-        of_node(1, 0, IDLE),
+        node_entry(1, 0, IDLE),
     ]?;
     Ok(history)
 }
@@ -255,12 +256,12 @@ fn push_entries(text: &mut Vec<u8>, script: &Script, entries: &[Entry]) -> Resul
 }
 
 fn get(number: Option<u64>) -> Entry {
-    of_host(0, What::HostTake { number })
+    host_entry(0, What::HostTake { number })
 }
 
 fn kill(found: KillResult) -> Entry {
     let to = place(6, 7);
-    of_host(0, What::Kill { pid: 0, to, found })
+    host_entry(0, What::Kill { pid: 0, to, found })
 }
 
 fn host_entries(alloc: Global) -> Result<Vec<Entry>, AllocError> {
@@ -281,15 +282,15 @@ fn node_entries(alloc: Global) -> Result<Vec<Entry>, NoMemory> {
     let host = (place(HOST, 0), block(HOST_HOME + 3, 4));
     let sent = send(alloc, &[process, host], &[0x00, 0xFA])?;
     let entries = vec![in alloc;
-        of_node(0, 3, sent),
-        of_node(0, 7, spawn_what(5, place(3, 4), false)),
+        node_entry(0, 3, sent),
+        node_entry(0, 7, spawn_what(5, place(3, 4), false)),
     ]?;
     Ok(entries)
 }
 
 /// A take of relative node 0 with all masks, and with the process that asked longest ago.
 fn take(row: TakeResult) -> Entry {
-    of_node(0, 2, take_what(5, 250, Some(3), row))
+    node_entry(0, 2, take_what(5, 250, Some(3), row))
 }
 
 fn takes(alloc: Global) -> Result<Vec<Entry>, AllocError> {
@@ -351,7 +352,7 @@ fn the_texts_of_states_and_causes(rt: HostRuntime) -> Result<(), Fail> {
         Status::Polling,
         Status::Stopped(Stop::Exited(42)),
         Status::Stopped(Stop::Killed),
-        Status::Stopped(Stop::Illegal(0x1_0000, 0xFEDC_BA98)),
+        Status::Stopped(Stop::Illegal(PRIVATE_START, 0xFEDC_BA98)),
         Status::Stopped(Stop::Fetch(0xFFFF_FFFE)),
         Status::Stopped(Stop::Target(4)),
         Status::Stopped(Stop::Misaligned(5)),
@@ -446,7 +447,7 @@ fn message(alloc: Global) -> Result<Answer, NoMemory> {
 
 /// Replies in alice's report, a line each.
 fn lines_of_replies(alloc: Global) -> Result<Vec<u8>, NoMemory> {
-    let run_record = of_alice(alloc, Vec::new(alloc), Vec::new(alloc))?;
+    let run_record = alice_record(alloc, Vec::new(alloc), Vec::new(alloc))?;
     let more = vec![in alloc; message(alloc)?, peek_answer(alloc)?]?;
     let mut text = Vec::new(alloc);
     push_replies(&mut text, &run_record, bare_replies(alloc)?.as_slice())?;
@@ -550,7 +551,7 @@ fn received_twice(alloc: Global) -> Result<Vec<(Command, Answer)>, NoMemory> {
 
 /// The summary of a load in which alice did this.
 fn alice_summary(alloc: Global, done: Vec<(Command, Answer)>) -> Result<Vec<u8>, NoMemory> {
-    let run_record = of_alice(alloc, done, Vec::new(alloc))?;
+    let run_record = alice_record(alloc, done, Vec::new(alloc))?;
     write_summary(alloc, 4_294_967_295, &run_record)
 }
 
@@ -568,9 +569,9 @@ fn the_summary_has_what_was_received_first(rt: HostRuntime) -> Result<(), Fail> 
 /// A cube that is granted, takes once and is given back.
 fn push_cube(history: &mut Vec<Entry>, user: u32) -> Result<(), AllocError> {
     history.push(grant_entry(user))?;
-    history.push(of_node(user, 0, IDLE))?;
-    history.push(of_host(user, What::Drain))?;
-    history.push(of_host(user, What::Freecube))?;
+    history.push(node_entry(user, 0, IDLE))?;
+    history.push(host_entry(user, What::Drain))?;
+    history.push(host_entry(user, What::Freecube))?;
     Ok(())
 }
 

@@ -28,10 +28,10 @@ fn grant_numbered(history: &[Entry], number: u64) -> Option<(Grant, &[Entry])>
         ≡ history_behind_grant history.now number }
 {
     let mut grant_count = 0;
-    for (place, entry) in history.iter().enumerate() {
+    for (index, entry) in history.iter().enumerate() {
         if let Some(grant) = entry_grant_numbered(entry, grant_count) {
             if grant_count == number {
-                return Some((grant, &history[place + 1..]));
+                return Some((grant, &history[index + 1..]));
             }
             grant_count += 1;
         }

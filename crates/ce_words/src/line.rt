@@ -34,7 +34,7 @@ pub enum CommandLineError {
 
 /// Reads the words behind the program's name: the flag `--serial`, and the option `--load N` with N
 /// from 0 to 4,294,967,295, each once at most. What a line means, and whether it is refused, is
-/// what `clap` says of this command.
+/// what `clap` says of this command. `Usage` where it is refused; `Memory` may come at any time.
 pub fn read_line(alloc: Global, words: &[String]) -> Result<CommandLine, CommandLineError>
     ensures accepted { IfOk result (λ _. IsCommandLine (map string_bytes words.now)) }
     ensures line { IfOk result (λ line. line ≡ line_of_words (map string_bytes words.now)) }

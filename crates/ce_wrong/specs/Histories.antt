@@ -55,7 +55,10 @@ mail_keeping_state_after_host user Drain state =
     (λ cube node node_record. node_record) state
 mail_keeping_state_after_host user Freecube state =
     record (with_cube user (λ cube. cube)
-    (λ cube node node_record. record blank_record { waiting_items = node_record.waiting_items }) state) { cubes = filter (λ cube. not (is_held_by user cube)) state.cubes }
+    (λ cube node node_record. record blank_record { waiting_items = node_record.waiting_items })
+    state) {
+      cubes = filter (λ cube. not (is_held_by user cube)) state.cubes;
+    }
 mail_keeping_state_after_host user other state = state_after_host user other state
 
 abbrev pub mail_keeping_state_after_call : Option Call → Entry → MachineState → MachineState

@@ -13,7 +13,7 @@ use std::{env, io};
 
 /// Takes a block, and then over and over sends it to itself, waits for it, and counts in it: a turn
 /// that takes the message runs 12 instructions up to the next xrecvb.
-const IMAGE: &str = "\
+const PROGRAM: &str = "\
         li a0, 4\n\
         li a7, 1\n\
         ecall\n\
@@ -96,8 +96,8 @@ fn process_hand_overs(node: &mut LoneNode, pid: u32, count: u64) -> Result<(), R
 }
 
 fn image(alloc: Global) -> Result<Image, RowFault> {
-    if IMAGE.len() >= TEXT_LIMIT {
+    if PROGRAM.len() >= TEXT_LIMIT {
         return Err(RowFault::Images);
     }
-    assemble(alloc, IMAGE.as_bytes()).map_err(|_| RowFault::Images)
+    assemble(alloc, PROGRAM.as_bytes()).map_err(|_| RowFault::Images)
 }

@@ -68,7 +68,7 @@ impl Mailbox {
 
     /// Whether an item can be given to a node of which the processes in `asking` wait for a message
     /// and those in `dead` have stopped, one bit each.
-    pub fn has(&self, asking: u32, dead: u32) -> bool
+    pub fn has_eligible(&self, asking: u32, dead: u32) -> bool
         ensures { result ≡ list_any (is_eligible asking dead) self.now.items }
     {
         has_eligible(&self.items, asking, dead)
@@ -76,7 +76,7 @@ impl Mailbox {
 
     /// Takes out the first item that can be given to such a node; None exactly where there is none.
     /// The others stay in their order.
-    pub fn next(&mut self, asking: u32, dead: u32) -> Option<Item>
+    pub fn take_next(&mut self, asking: u32, dead: u32) -> Option<Item>
         ensures first { option_map item_of result ≡ find (is_eligible asking dead) self.old.items }
         ensures rest { self.new.items ≡ without_first (is_eligible asking dead) self.old.items }
         ensures spare { IfSome result (λ _. self.new.spare ≡ self.old.spare + 1) }

@@ -39,12 +39,12 @@ fn mail_waits_in_order(rt: HostRuntime) -> Result<(), Fail> {
     mailbox.post(Item::Mail(parcel(alloc, 0, 8)?));
     mailbox.post(Item::Mail(parcel(alloc, 0, 9)?));
     assert_eq!(rt; mailbox.count(), 3);
-    assert!(rt; !mailbox.has(2, 4));
-    assert!(rt; mailbox.next(2, 4).is_none());
-    assert!(rt; mailbox.has(1, 0));
-    assert!(rt; mailbox.has(0, 8));
-    assert_eq!(rt; number_of(mailbox.next(1, 0)), Some(8));
-    assert_eq!(rt; number_of(mailbox.next(9, 0)), Some(7));
+    assert!(rt; !mailbox.has_eligible(2, 4));
+    assert!(rt; mailbox.take_next(2, 4).is_none());
+    assert!(rt; mailbox.has_eligible(1, 0));
+    assert!(rt; mailbox.has_eligible(0, 8));
+    assert_eq!(rt; number_of(mailbox.take_next(1, 0)), Some(8));
+    assert_eq!(rt; number_of(mailbox.take_next(9, 0)), Some(7));
     assert_eq!(rt; number_of(mailbox.take_first()), Some(9));
     assert!(rt; mailbox.take_first().is_none());
     Ok(())
@@ -58,8 +58,13 @@ fn starts_and_kills_do_not_wait(rt: HostRuntime) -> Result<(), Fail> {
     mailbox.post(Item::Mail(parcel(alloc, 0, 0)?));
     mailbox.post(Item::Start { pid: 1, image: 5 });
     mailbox.post(Item::Kill { pid: 0 });
-    assert!(rt; matches!(mailbox.next(0, 0), Some(Item::Start { pid: 1, image: 5 })));
-    assert!(rt; matches!(mailbox.next(0, 0), Some(Item::Kill { pid: 0 })));
+    assert!(rt;
+        matches!(
+            mailbox.take_next(0, 0),
+            Some(Item::Start { pid: 1, image: 5 })
+        )
+    );
+    assert!(rt; matches!(mailbox.take_next(0, 0), Some(Item::Kill { pid: 0 })));
     assert_eq!(rt; mailbox.count(), 1);
     Ok(())
 }

@@ -1,7 +1,7 @@
 -- What the answer to a box's call leaves of its node: it is well.
-use Rattle.std.proofs.Common.{◌≡◌, ℕ, suc, ◌+◌, ◌<◌, ◌≤◌, Bool, true, false, ◌||◌, if◌then◌else◌, List, [], ◌∷◌, length, slice_get, Option, Some, None, IfSome, refl, ap, sym, ◌∙◌, subst, arith, inl, inr}
+use Rattle.std.proofs.Common.{◌≡◌, ℕ, suc, ◌+◌, ◌<◌, ◌≤◌, Bool, true, false, ◌||◌, List, [], ◌∷◌, length, Option, Some, None, IfSome, refl, ap, sym, ◌∙◌, subst, arith, inl, inr}
 use Rattle.std.specs.List.{Contains}
-use Rattle.std.proofs.lemmas.Bool.{cases_Bool, cases_lt, both_ways, or_cases}
+use Rattle.std.proofs.lemmas.Bool.{cases_lt, both_ways, or_cases}
 use Rattle.std.proofs.lemmas.List.{get_or_past}
 use Rattle.rv_model.specs.Image.{ImageParts}
 use Rattle.ce_model.specs.declared.topology.Place.{Place}
@@ -17,9 +17,10 @@ use Rattle.ce_model.specs.Kernel.{with_store}
 use Rattle.ce_model.specs.Hearing as model
 use Rattle.ce_model.specs.Sound.{is_unborn, is_polling, IsSoundTurn}
 use Rattle.ce_solo.proofs.Counting.{hit, hit-le, same_from_hit, count, count-nil, count-one, count-cons, rising-put}
-use Rattle.ce_solo.proofs.Nodes.{polls, IsWell}
+use Rattle.ce_solo.proofs.Nodes.{IsWell}
 use Rattle.ce_solo.proofs.Hears.{mail-hears, nothing-hears, kill-hears, poll-hears, told-hears, receiving_is, start-begins}
 use Rattle.ce_solo.proofs.HandedOver.{member-of}
+use Rattle.ce_solo.proofs.NodeTakes.{poller-polls}
 use Rattle.rk_mail.specs.declared.talk.Hearing.{Hearing}
 use Rattle.rk_mail.specs.declared.talk.Hearing.TheVariants.{Start, Mail, Kill, Poll, Idle, Spent, Posted, Spawned, Used, Killed, Unused, Already, Noted}
 use Rattle.rk_mail.specs.Items.{parcel_of}
@@ -32,7 +33,6 @@ use Rattle.rk_node.specs.Answering.{IsAwaitingAnswer, IsBoxWork, IsAbleToHear}
 use Rattle.rk_node.specs.Hearings.{IsNodeWork, HasRoomToHear, batch_after_hearing}
 use Rattle.rk_node.proofs.Counted.{count-blocks}
 use Rattle.rk_node.proofs.Heard.{apart-stored, once-stored}
-use Rattle.rk_node.proofs.Polling.{polls-head}
 
 -- ---- names that aren't there
 
@@ -85,18 +85,6 @@ eligible-within turn node pid well can =
     elim (or_cases (is_member pid (process_set is_receiving node.processes)) (is_member pid (process_set is_stopped node.processes)) can) [
       | inl t ↦ within-by turn node pid is_receiving well refl (member-of is_receiving node.processes pid t)
       | inr t ↦ within-by turn node pid is_stopped well refl (member-of is_stopped node.processes pid t)
-    ]
-
-first-polls : (pid : ℕ) (polling : List ℕ) → slice_get polling 0 ≡ Some pid → 1 ≤ polls pid polling
-first-polls pid [] e = absurd (cc)
-first-polls pid (x ∷ xs) e = let same : x ≡ pid = cc in subst (λ q. 1 ≤ polls q (x ∷ xs)) same (polls-head x xs)
-
--- the one that polls longest polls
-poller-polls : (turn : Option Turn) (node : Node) (pid : ℕ) → IsWell turn node → slice_get node.polling_ids 0 ≡ Some pid → is_polling (process_at node pid).status ≡ true
-poller-polls turn node pid well e =
-    elim (cases_Bool (is_polling (process_at node pid).status)) [
-      | inl t ↦ t
-      | inr f ↦ absurd (omega (arith, first-polls pid node.polling_ids e, well.polling_ids pid, ap {B = ℕ} (λ b. if b then 1 else 0) f))
     ]
 
 pub polling-receives : (s : Status) → is_polling s ≡ true → is_receiving s ≡ true
@@ -186,7 +174,7 @@ module _ (images : List ImageParts) (box : Box) (well : IsWell box.node.turn box
     not-counted parcel.block.id (blocks_of box.node) can.work.apart,
   )
   work-of (Kill pid) can = can.work.0
-  work-of (Poll pid) can = within-by box.node.turn box.node pid is_polling well refl (poller-polls box.node.turn box.node pid well can.work)
+  work-of (Poll pid) can = within-by box.node.turn box.node pid is_polling well refl (poller-polls box.node pid well can.work)
   work-of Idle can = tt
   work-of Spent can = tt
   work-of (Posted batch) can = tt
@@ -210,7 +198,7 @@ module _ (images : List ImageParts) (box : Box) (well : IsWell box.node.turn box
       (kill-hears images box.node pid (well-idle none) none can.work.0 (born_status (process_at box.node pid).status can.work.1)).became.well
   hears-well (Poll pid) can =
       let none = take-idle box can.call (Poll pid) can.said can.answer refl in
-      let is = receiving_is (process_at box.node pid).status (polling-receives (process_at box.node pid).status (poller-polls box.node.turn box.node pid well can.work)) in
+      let is = receiving_is (process_at box.node pid).status (polling-receives (process_at box.node pid).status (poller-polls box.node pid well can.work)) in
       (poll-hears images box.node pid (well-idle none) (work-of (Poll pid) can) is.0 is.1).became.well
   hears-well Idle can = (nothing-hears images box.node well sound).became.well
   hears-well Spent can = (nothing-hears images box.node well sound).became.well

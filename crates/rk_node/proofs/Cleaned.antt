@@ -5,12 +5,14 @@ use Rattle.ce_model.specs.declared.topology.BlockId.{BlockId}
 use Rattle.ce_model.specs.Limits.{greatest_blocks}
 use Rattle.ce_model.specs.Blocks.{is_lower, with_id, with_ids, blocks_of_home}
 use Rattle.ce_model.specs.Kernel.{with_store}
-use Rattle.ce_model.specs.Sound.{AreInOrder}
-use Rattle.ce_solo.proofs.Counting.{hit, hit-self, same_from_hit, count, count-nil, count-cons, count-put_all, all-at_name, precedes-trans, rising-put_all}
+use Rattle.ce_model.specs.Sound.{AreRisingIds}
+use Rattle.ce_model.proofs.BlockOrder.{precedes-trans}
+use Rattle.ce_solo.proofs.Counting.{hit, hit-self, same_from_hit, count, count-nil, count-cons, count-put_all, all-at_name, rising-put_all}
+use Rattle.ce_solo.proofs.Fresh.{rising-home}
 use Rattle.rk_node.specs.declared.awaited_call.AwaitedCall.TheVariants.{Nothing}
 use Rattle.rk_node.specs.Boxes.{Box, IsCleanBox, scrubbed_node}
 use Rattle.rk_node.specs.Laws.{box_with_all, AreBlocksOfHome}
-use Rattle.rk_node.proofs.Sorted.{not_self, once-rising, rising-home}
+use Rattle.rk_node.proofs.Sorted.{not_self, once-rising}
 
 -- ---- lists that rise and have the same names are the same
 
@@ -22,7 +24,7 @@ hit-other a b none =
     ]
 
 -- a name in a rising list that isn't its first comes behind the first
-behind-first : (id x : BlockId) (xs : List BlockId) → AreInOrder (x ∷ xs) → 1 ≤ count id (x ∷ xs) → hit id x < 1 → is_lower x id ≡ true
+behind-first : (id x : BlockId) (xs : List BlockId) → AreRisingIds (x ∷ xs) → 1 ≤ count id (x ∷ xs) → hit id x < 1 → is_lower x id ≡ true
 behind-first id x xs rising there other =
     all-at_name (λ name. is_lower x name ≡ true) xs id rising.0 (omega (arith, there, other, count-cons id x xs))
 
@@ -30,7 +32,7 @@ first-counts : (x : BlockId) (xs : List BlockId) → 1 ≤ count x (x ∷ xs)
 first-counts x xs = omega (arith, count-cons x x xs, hit-self x)
 
 -- the first names of both are the same
-same-first : (x y : BlockId) (xs ys : List BlockId) → AreInOrder (x ∷ xs) → AreInOrder (y ∷ ys)
+same-first : (x y : BlockId) (xs ys : List BlockId) → AreRisingIds (x ∷ xs) → AreRisingIds (y ∷ ys)
     → ((id : BlockId) → count id (x ∷ xs) ≡ count id (y ∷ ys)) → x ≡ y
 same-first x y xs ys rising rising' same =
     elim (cases_lt (hit x y) 1) [
@@ -41,7 +43,7 @@ same-first x y xs ys rising rising' same =
       | inr hit ↦ same_from_hit x y hit
     ]
 
-same-rising : (xs ys : List BlockId) → AreInOrder xs → AreInOrder ys → ((id : BlockId) → count id xs ≡ count id ys) → xs ≡ ys
+pub same-rising : (xs ys : List BlockId) → AreRisingIds xs → AreRisingIds ys → ((id : BlockId) → count id xs ≡ count id ys) → xs ≡ ys
 same-rising [] [] rising rising' same = refl
 same-rising [] (y ∷ ys) rising rising' same = absurd (omega (arith, same y, count-nil y, first-counts y ys))
 same-rising (x ∷ xs) [] rising rising' same = absurd (omega (arith, same x, count-nil x, first-counts x xs))

@@ -88,10 +88,6 @@ ids-past zero (p ∷ ps) h = absurd (omega arith)
 ids-past (suc k) [] h = refl
 ids-past (suc k) (p ∷ ps) h = ids-past k ps (omega arith)
 
-pub ids-unborn : (n : ℕ) → flat_map (λ (p : Process). mapped_ids p.space) (replicate n unborn_process) ≡ []
-ids-unborn zero = refl
-ids-unborn (suc n) = ids-unborn n
-
 -- the windows of all other processes are still ones that were used
 pub within-reset : (owns : List OwnState) (pid : ℕ) (own : OwnState) (m : List Mapping) → AreUsedWindows owns (map place_of m)
     → AreUsedWindows (slice_set owns pid own) (map place_of (without_process pid m))

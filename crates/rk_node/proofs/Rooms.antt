@@ -5,9 +5,9 @@ use Rattle.ce_model.specs.Limits.{process_count, home_blocks}
 use Rattle.ce_model.specs.Blocks.{with_id, blocks_of_home}
 use Rattle.ce_model.specs.Node.{Node, blocks_of}
 use Rattle.ce_model.specs.Kernel.{with_store}
+use Rattle.ce_solo.proofs.Fresh.{ids-unborn}
 use Rattle.rk_node.specs.Boxes.{fresh_node_at, scrubbed_node}
 use Rattle.xm_block.proofs.HomeBlocks.{length-blocks_of_home}
-use Rattle.rk_node.proofs.Moved.{ids-unborn}
 
 pub blocks-fresh : (node : Node) → node ≡ fresh_node_at node.home node.number node.dim node.images → length (blocks_of node) ≡ home_blocks
 blocks-fresh node fresh =

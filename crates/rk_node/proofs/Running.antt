@@ -4,7 +4,7 @@ use Rattle.std.specs.List.{AllByRecursion, list_all}
 use Rattle.std.proofs.lemmas.List.{get_or-set_same}
 use Rattle.rv_model.specs.declared.stop.Stop.{Stop}
 use Rattle.rv_model.specs.declared.stop.Stop.TheVariants.{Exited, NoCall, TurnSpent}
-use Rattle.rv_model.specs.Exec.{Outcome, next_state, call_state, stop_state, exec}
+use Rattle.rv_model.specs.Exec.{Outcome, next_state, call_state, stop_state, step_outcome}
 use Rattle.ce_model.specs.declared.process.Status.{Status}
 use Rattle.ce_model.specs.declared.process.Status.TheVariants.{Asking, Polling}
 use Rattle.ce_model.specs.declared.topology.Place.{Place}
@@ -12,13 +12,13 @@ use Rattle.ce_model.specs.declared.topology.BlockId.{BlockId}
 use Rattle.ce_model.specs.Limits.{block_room, greatest_targets, turn_calls}
 use Rattle.ce_model.specs.Blocks.{Block, with_id}
 use Rattle.ce_model.specs.Space.{Space, process_access, window_start, has_unused_window, mapped_space, block_named, places_at}
-use Rattle.ce_model.specs.Process.{Process, argument, call_number, with_answer, moved_process, unborn_process, TurnEnd, call_end, stop_end, end_after, turn_end}
+use Rattle.ce_model.specs.Process.{Process, argument, call_number, with_answer, moved_process, unborn_process, TurnEnd, call_end, stop_end, end_after, turn_end, instruction_outcome}
 use Rattle.ce_model.specs.Node.{Turn, Node, is_place, process_at, with_process, with_stopped_process, Call, send_call, spawn_call, kill_call, note_call}
 use Rattle.ce_model.specs.Kernel.{CallOutcome, continuation, departure, turn_conclusion, return_outcome, stop_outcome, leave_outcome, read_outcome, wait_outcome, with_space, process_left_behind, with_store, map_outcome, xmalloc, free_outcome, xfree, xlength, is_target, place_named, send_outcome, xsend, copies_outcome, xmsend_block, xmsend, xrecv, xrecvb, spawn, ckill, KernelCall, kernel_calls, kernel_call, call_outcome, kernel}
-use Rattle.ce_model.specs.Saying.{Saying, idle_saying, saying_after_call, saying_after_instruction, instruction, turn_saying}
+use Rattle.ce_model.specs.Saying.{Saying, idle_saying, saying_after_call, saying_after_instruction, turn_saying}
 use Rattle.ce_model.specs.Sound.{IsSoundTurn}
 use Rattle.ce_solo.proofs.Windows.{IsSameHeld, same_held}
-use Rattle.ce_solo.proofs.Instructions.{IsLed, exec-led}
+use Rattle.ce_solo.proofs.Instructions.{IsLed, step_outcome-led}
 use Rattle.ce_solo.proofs.Nodes.{IsWell, well-turn}
 use Rattle.ce_solo.proofs.Words.{IsInItsTurn, goes-done, in_turn-windows}
 use Rattle.ce_solo.proofs.Calls.{call_numbered, one_call_more}
@@ -199,7 +199,7 @@ runs-led n node turn (stop_state cause) h each = refl
 pub runs-reached : (n : ℕ) (node : Node) (turn : Turn) → turn.pid < length node.processes → turn_saying n node turn ≡ saying_of_turn_end node turn (turn_end n (process_at node turn.pid))
 unfolding turn_saying turn_end
 runs-reached zero node turn h = refl
-runs-reached (suc n) node turn h = runs-led n node turn (instruction (process_at node turn.pid)) h (λ node' h'. runs-reached n node' turn h')
+runs-reached (suc n) node turn h = runs-led n node turn (instruction_outcome (process_at node turn.pid)) h (λ node' h'. runs-reached n node' turn h')
 
 -- ---- what a run keeps
 
@@ -237,7 +237,7 @@ led-kept n p (stop_state cause) led each = (kept_same p, omega arith)
 pub reached-kept : (n : ℕ) (p : Process) → IsKeptBy n p (turn_end n p)
 unfolding turn_end
 reached-kept zero p = (kept_same p, omega arith)
-reached-kept (suc n) p = led-kept n p (exec process_access p.registers p.pc p.space) (exec-led p.registers p.pc p.space) (λ q. reached-kept n q)
+reached-kept (suc n) p = led-kept n p (step_outcome process_access p.registers p.pc p.space) (step_outcome-led p.registers p.pc p.space) (λ q. reached-kept n q)
 
 -- the node is in its turn still
 pub well-after : (node : Node) (turn : Turn) (left : ℕ) (p : Process) → IsWell (Some turn) node → IsSoundTurn turn → left ≤ turn.instructions_left → IsKept (process_at node turn.pid) p

@@ -6,7 +6,7 @@ use Rattle.ce_model.specs.Saying.{says}
 use Rattle.ce_model.specs.Sound.{IsSoundTurn}
 use Rattle.ce_solo.proofs.Counting.{count, count-nil}
 use Rattle.ce_solo.proofs.Nodes.{IsWell}
-use Rattle.ce_solo.proofs.Words.{IsCallOf, call_ids}
+use Rattle.ce_solo.proofs.Words.{IsCallOfNode, call_ids}
 use Rattle.ce_solo.proofs.Says.{says-said}
 use Rattle.rk_node.specs.declared.node.Node.{Node}
 use Rattle.rk_node.specs.declared.awaited_call.AwaitedCall.{AwaitedCall}
@@ -22,7 +22,7 @@ use Rattle.rk_node.proofs.Limits.{sound_if}
 -- what a node is that was well and said this call
 pub record IsAfter (node after : model.Node) (call : Call) : Type 0 where
   pub well : IsWell after.turn after
-  pub of_node : IsCallOf after call
+  pub of_node : IsCallOfNode after call
   pub takes_out : HasTakenOut node after call
 
 said-after : (node after : model.Node) (call : Call) → IsWell node.turn node → IfSome node.turn IsSoundTurn
@@ -31,7 +31,7 @@ said-after node after call well sound same is =
     let said = (says-said node well sound).leaves in
     record {
       well = subst (λ (n : model.Node). IsWell n.turn n) (sym is) said.became.well;
-      of_node = subst (λ (n : model.Node). IsCallOf n call) (sym is) (subst (IsCallOf (says node).node) (sym same) said.of_node);
+      of_node = subst (λ (n : model.Node). IsCallOfNode n call) (sym is) (subst (IsCallOfNode (says node).node) (sym same) said.of_node);
       takes_out = λ id. omega (
         arith,
         said.became.blocks id,
@@ -45,7 +45,7 @@ pub said-whole : (node : Node) (out : AwaitedCall) (after : Node) (call : Call) 
     → node_model after ≡ (says (node_model node)).node → IsAfter (node_model node) (node_model after) call
 said-whole node out after call whole same is = said-after (node_model node) (node_model after) call whole.well (sound_if node.turn) same is
 
-pub has_said : (box : Box) (call : Call) → box.awaited_call ≡ awaited_call_of call → IsCallOf box.node call → IsAwaitingAnswer box call
+pub has_said : (box : Box) (call : Call) → box.awaited_call ≡ awaited_call_of call → IsCallOfNode box.node call → IsAwaitingAnswer box call
 has_said box (take_call asking dead poller) is of = (is, of.1, of.0)
 has_said box call is of = sym is
 

@@ -1,22 +1,21 @@
 -- Names that rise stand once each; the node of a clean box, and of a scrubbed one, is well.
-use Rattle.std.proofs.Common.{◌≡◌, ℕ, zero, suc, ◌+◌, ◌<◌, ◌≤◌, true, if◌then◌else◌, List, [], ◌∷◌, ◌++◌, length, map, flat_map, replicate, slice_index_or, None, refl, ap, sym, ◌∙◌, subst, arith, append-nil, inl, inr}
-use Rattle.std.specs.List.{AllByRecursion, range_with_len}
-use Rattle.std.proofs.lemmas.Bool.{cases_lt, both_ways, eq-eqb, lt-ltb, and_from, or_right}
+use Rattle.std.proofs.Common.{◌≡◌, ℕ, ◌+◌, ◌≤◌, true, if◌then◌else◌, List, [], ◌∷◌, ◌++◌, length, flat_map, replicate, slice_index_or, None, refl, ap, sym, ◌∙◌, subst, arith, append-nil, inl, inr}
+use Rattle.std.specs.List.{AllByRecursion}
+use Rattle.std.proofs.lemmas.Bool.{cases_lt, both_ways}
 use Rattle.std.proofs.lemmas.Bool.Decides.{nat_tests}
 use Rattle.std.proofs.lemmas.List.{length-replicate, get_or-replicate, get_or_past}
 use Rattle.rv_model.specs.declared.limits.TheConstants.{REGISTER_COUNT}
 use Rattle.ce_model.specs.declared.topology.BlockId.{BlockId}
-use Rattle.ce_model.specs.Limits.{process_count, home_blocks}
-use Rattle.ce_model.specs.Blocks.{is_lower, blocks_of_home}
+use Rattle.ce_model.specs.Limits.{process_count}
+use Rattle.ce_model.specs.Blocks.{is_lower}
 use Rattle.ce_model.specs.Space.{mapped_ids}
 use Rattle.ce_model.specs.Process.{Process, unborn_process}
 use Rattle.ce_model.specs.Node.{Node, process_at, blocks_of}
-use Rattle.ce_model.specs.Sound.{is_polling, AreInOrder}
+use Rattle.ce_model.specs.Sound.{is_polling, AreRisingIds}
+use Rattle.ce_solo.proofs.Fresh.{rising-home, ids-unborn}
 use Rattle.ce_solo.proofs.Counting.{hit, hit-le, same_from_hit, count, count-nil, count-cons}
 use Rattle.ce_solo.proofs.Nodes.{polls, IsWellProcess, IsWell}
 use Rattle.rk_node.specs.Boxes.{fresh_node_at, scrubbed_node}
-use Rattle.xm_block.proofs.HomeBlocks.{name}
-use Rattle.rk_node.proofs.Moved.{ids-unborn}
 
 -- ---- names that rise
 
@@ -31,7 +30,7 @@ none_later x (y ∷ ys) all =
       | inr here ↦ absurd (not_self x (subst (λ other. is_lower x other ≡ true) (sym (same_from_hit x y here)) all.0))
     ]
 
-pub once-rising : (id : BlockId) (xs : List BlockId) → AreInOrder xs → count id xs ≤ 1
+pub once-rising : (id : BlockId) (xs : List BlockId) → AreRisingIds xs → count id xs ≤ 1
 once-rising id [] rising = omega (arith, count-nil id)
 once-rising id (x ∷ xs) rising =
     elim (cases_lt (hit id x) 1) [
@@ -40,22 +39,6 @@ once-rising id (x ∷ xs) rising =
           omega (arith, count-cons id x xs, none, hit-le id x))
     ]
 
--- ---- the blocks of a home
-
-before-next : (home i j : ℕ) → i < j → is_lower (name home i) (name home j) ≡ true
-before-next home i j h = or_right _ _ (and_from _ _ (eq-eqb home home refl) (lt-ltb i j h))
-
-all_later : (home i from n : ℕ) → i < from → AllByRecursion (λ other. is_lower (name home i) other ≡ true) (map (name home) (range_with_len from n))
-all_later home i from zero h = tt
-all_later home i from (suc n) h = (before-next home i from h, all_later home i (from + 1) n (omega arith))
-
-rising-from : (home from n : ℕ) → AreInOrder (map (name home) (range_with_len from n))
-rising-from home from zero = tt
-rising-from home from (suc n) = (all_later home from (from + 1) n (omega arith), rising-from home (from + 1) n)
-
-pub rising-home : (home : ℕ) → AreInOrder (blocks_of_home home)
-rising-home home = rising-from home 0 home_blocks
-
 -- ---- nodes without a process that was started
 
 -- no process of the node was started, its blocks are in its store, whose names rise, and nothing is
@@ -63,7 +46,7 @@ rising-home home = rising-from home 0 home_blocks
 pub record IsIdle (node : Node) : Type 0 where
   pub processes : node.processes ≡ replicate process_count unborn_process
   pub polling_ids : node.polling_ids ≡ []
-  pub store : AreInOrder node.store
+  pub store : AreRisingIds node.store
 
 idle-process : (node : Node) (pid : ℕ) → IsIdle node → process_at node pid ≡ unborn_process
 idle-process node pid idle =

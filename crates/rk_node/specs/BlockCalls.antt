@@ -28,7 +28,7 @@ block_outcome call node turn p = read_outcome node turn p (block_named p.space (
 -- the block at a window of the turn's process, if it holds one, comes to what this does with it
 abbrev pub HasDoneBlockCall : ℕ → (model.Node → model.Turn → Process → ℕ × Block → CallOutcome)
     → Node → Node → model.Turn → CallEnd → Type 0
-HasDoneBlockCall window model_outcome before after turn call_end =
-    IfSome (block_held_at before.held_blocks.mappings turn.pid window)
-    (λ block. HasDoneCall
-    (λ node turn p. model_outcome node turn p (window, block)) before after turn turn call_end)
+HasDoneBlockCall window model_outcome old_node new_node turn call_end =
+    IfSome (block_held_at old_node.held_blocks.mappings turn.pid window)
+    (λ block. HasDoneCall (λ node turn p. model_outcome node turn p (window, block))
+    old_node new_node turn turn call_end)

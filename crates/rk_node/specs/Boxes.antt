@@ -14,6 +14,14 @@ pub record Box : Type 0 where
   pub room : ℕ
   pub awaited_call : AwaitedCall
 
+-- the home of a box
+abbrev pub home_of : Box → ℕ
+home_of box = box.node.home
+
+-- no call but a Take is out of the box
+abbrev pub IsIdleBox : Box → Type 0
+IsIdleBox box = box.awaited_call ≡ Nothing
+
 -- the fresh node of this number, whose blocks have another home than their number
 abbrev pub fresh_node_at : ℕ → ℕ → ℕ → ℕ → Node
 fresh_node_at home r dim images =
@@ -23,7 +31,7 @@ fresh_node_at home r dim images =
 -- has room for all blocks of the greatest cube
 pub record IsCleanBox (box : Box) : Type 0 where
   pub node : box.node ≡ fresh_node_at box.node.home box.node.number box.node.dim box.node.images
-  pub awaited_call : box.awaited_call ≡ Nothing
+  pub awaited_call : IsIdleBox box
   pub room : greatest_blocks ≤ box.room
 
 -- the node of a box that is emptied: no block is there, no process was started, none polls, and

@@ -34,8 +34,8 @@ HasRoomToHear other node = Unit {0}
 -- the spare batch comes back with the answer to a message
 abbrev pub batch_after_hearing : Hearing → Option (List (Place × Block))
     → Option (List (Place × Block))
-batch_after_hearing (Posted batch) before = Some batch
-batch_after_hearing other before = before
+batch_after_hearing (Posted batch) old_batch = Some batch
+batch_after_hearing other old_batch = old_batch
 
 -- the names of the blocks of a process of the node
 abbrev pub process_block_ids : ℕ → model.Node → List BlockId

@@ -5,8 +5,7 @@ use Rattle.ce_model.specs.Limits.{greatest_blocks}
 use Rattle.ce_model.specs.Blocks.{with_id, blocks_of_home}
 use Rattle.ce_model.specs.Kernel.{with_store}
 use Rattle.ce_solo.proofs.Counting.{count}
-use Rattle.rk_node.specs.declared.awaited_call.AwaitedCall.TheVariants.{Nothing}
-use Rattle.rk_node.specs.Boxes.{Box, IsCleanBox, scrubbed_node}
+use Rattle.rk_node.specs.Boxes.{Box, IsCleanBox, IsIdleBox, scrubbed_node}
 
 -- the box once these blocks were put into its store, one after the other
 abbrev pub box_with_all : List BlockId → Box → Box
@@ -22,6 +21,6 @@ AreBlocksOfHome home ids = (id : BlockId) → count id ids ≡ count id (blocks_
 -- of its home were put home
 abbrev pub ScrubbedIsClean : Type 0
 ScrubbedIsClean =
-    (box : Box) (ids : List BlockId) → box.awaited_call ≡ Nothing → greatest_blocks ≤ box.room
+    (box : Box) (ids : List BlockId) → IsIdleBox box → greatest_blocks ≤ box.room
     → AreBlocksOfHome box.node.home ids
     → IsCleanBox (box_with_all ids (record box { node = scrubbed_node box.node }))

@@ -24,7 +24,7 @@ turn_model turn =
 -- the node of the model, with the names that its blocks have
 abbrev pub node_model : Node → model.Node
 node_model node = record {
-  number = node.relative;
+  number = node.number;
   dim = node.dim;
   home = node.home;
   images = node.images;

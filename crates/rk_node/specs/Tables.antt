@@ -41,7 +41,8 @@ AreRisingPlaces-prop : (places : List (ℕ × ℕ)) → IsProp (AreRisingPlaces 
 AreRisingPlaces-prop [] = hlevel props
 AreRisingPlaces-prop (place ∷ places) = hlevel (props, AreRisingPlaces-prop places)
 
-pub IsStocked-prop : {room : ℕ} {own_states : List OwnState} {held_blocks : MappingTable} {store : BlockStore} → IsProp (IsStocked room own_states held_blocks store)
+pub IsStocked-prop : {room : ℕ} {own_states : List OwnState} {held_blocks : MappingTable}
+    {store : BlockStore} → IsProp (IsStocked room own_states held_blocks store)
 IsStocked-prop {own_states = own_states} {held_blocks = held_blocks} = λ a b i. record {
   every_id = same _ _ a.every_id b.every_id i;
   windows = windows-prop a.windows b.windows i;

@@ -55,11 +55,11 @@ awaited_call_of_say (Some say) = awaited_call_of (call_of_say say)
 
 -- the call makes of a node, in this turn, what this call of the model does
 pub record HasDoneCall (model_outcome : model.Node → model.Turn → Process → kernel.CallOutcome)
-    (before after : Node) (turn turn' : model.Turn) (call_end : CallEnd) : Type 0 where
-  pub did : outcome_of_call_end call_end (node_model after) turn'
-      ≡ model_outcome (node_model before) turn (model.process_at (node_model before) turn.pid)
-  pub batch : HasBatch (awaited_call_of_end call_end) after.batch
-  pub room : after.room ≡ before.room
+    (old_node new_node : Node) (turn turn' : model.Turn) (call_end : CallEnd) : Type 0 where
+  pub did : outcome_of_call_end call_end (node_model new_node) turn'
+      ≡ model_outcome (node_model old_node) turn (model.process_at (node_model old_node) turn.pid)
+  pub batch : HasBatch (awaited_call_of_end call_end) new_node.batch
+  pub room : new_node.room ≡ old_node.room
 
 -- the turn goes on with fewer instructions left
 abbrev pub HasTurnGoneOn : CallEnd → Node → model.Turn → ℕ → Type 0

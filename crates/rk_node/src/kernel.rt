@@ -81,7 +81,7 @@ impl Node {
         requires { IsInTurn self.old (turn_model turn) }
         ensures { HasDoneCall mynode self.old self.new (turn_model turn) (turn_model turn) result }
     {
-        self.return_value(turn, self.relative)
+        self.return_value(turn, self.number)
     }
 
     /// mypid: the process's id.

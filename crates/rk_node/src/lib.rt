@@ -18,7 +18,7 @@ mod turn;
 
 pub use awaited_call::AwaitedCall;
 pub use laws::scrubbed_is_clean_law;
-pub use node_box::NodeBox;
+pub use node_box::{NodeBox, node_boxes};
 
 #[cfg(test)]
 mod tests;

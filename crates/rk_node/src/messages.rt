@@ -21,9 +21,6 @@ use ce_model::{GREATEST_TARGETS, HOST, PROCESS_COUNT, Place, Status, Stop};
 use rk_mail::{Batch, Say};
 use rv_model::WORD_SIZE;
 
-/// To how many places one call can send.
-const GREATEST_PLACES: usize = GREATEST_TARGETS as usize;
-
 impl Node {
     /// A place where a process can be: a node of the cube, and a process id.
     #[tactic(auto, unfolding(ce_model::specs::Limits::process_count))]
@@ -111,7 +108,7 @@ impl Node {
         if count > GREATEST_TARGETS {
             return self.return_value(turn, TOO_MANY_PLACES);
         }
-        let mut all = [Place { node: 0, pid: 0 }; GREATEST_PLACES];
+        let mut all = [Place { node: 0, pid: 0 }; GREATEST_TARGETS as usize];
         let places = &mut all[..count as usize];
         match self.read_places(turn.pid, self.argument(turn.pid, 2), places) {
             Ok(()) => self.send_copies(turn, window, places),

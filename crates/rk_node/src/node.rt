@@ -26,7 +26,7 @@ use xm_owner::HeldBlocks;
 pub(crate) struct Node {
     pub home: u32,
     pub room: u32,
-    pub relative: u32,
+    pub number: u32,
     pub dim: u32,
     pub images: u32,
     pub processes: Vec<Process>,
@@ -58,7 +58,7 @@ impl Node {
         Ok(Node {
             home,
             room,
-            relative: 0,
+            number: 0,
             dim: 0,
             images: 0,
             processes: unborn_processes(alloc)?,

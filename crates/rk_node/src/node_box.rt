@@ -8,16 +8,17 @@ ghost use Rattle.ce_model.specs.Saying.{says};
 ghost use Rattle.ce_model.specs.Hearing.{node_after_hearing};
 ghost use Rattle.xm_block.specs.Stores.{ids_of};
 ghost use Rattle.rk_mail.specs.Talk.{call_of_say, hearing_model};
-ghost use Rattle.rk_node.specs.Boxes.{IsCleanBox, HasRoomForBlock, fresh_node_at, scrubbed_node};
+ghost use Rattle.rk_node.specs.Boxes.{IsCleanBox, IsIdleBox, HasRoomForBlock, fresh_node_at, home_of, scrubbed_node};
 ghost use Rattle.rk_node.specs.Answering.{IsAwaitingAnswer, IsAbleToHear};
 ghost use Rattle.rk_node.specs.Withdrawal.{HasTakenOut};
 ghost use Rattle.rk_node.specs.Hearings.{AreNewToStore};
+ghost use Rattle.ce_daemon.specs.Boxes.{AreBoxes};
 
 use crate::awaited_call::{AwaitedCall, awaited_call_after};
 use crate::node::Node;
 use crate::pid::Pid;
 use ce_daemon::Homed;
-use ce_model::{NoMemory, Status};
+use ce_model::{GREATEST_BLOCKS, NoMemory, Status};
 use rk_mail::{Hearing, Say};
 use rv_image::Image;
 use std::alloc::Global;
@@ -65,17 +66,17 @@ impl NodeBox {
         })
     }
 
-    /// Makes a clean box the node of this relative number in a cube of this dimension,
-    /// `GREATEST_DIMENSION` at most, with so many images, 64 at most.
-    pub fn enter(&mut self, relative: u32, dim: u32, images: u32)
+    /// Makes a clean box the node of this number in a cube of this dimension, `GREATEST_DIMENSION`
+    /// at most, with so many images, `GREATEST_IMAGES` at most.
+    pub fn enter(&mut self, number: u32, dim: u32, images: u32)
         requires clean { IsCleanBox self.old }
         requires dim { dim ≤ greatest_dim }
-        requires relative { relative < 2 ^ dim }
+        requires number { number < 2 ^ dim }
         requires images { images ≤ greatest_images }
         ensures { self.new
-            ≡ record self.old { node = fresh_node_at self.old.node.home relative dim images } }
+            ≡ record self.old { node = fresh_node_at self.old.node.home number dim images } }
     {
-        self.node.relative = relative;
+        self.node.number = number;
         self.node.dim = dim;
         self.node.images = images;
     }
@@ -84,7 +85,7 @@ impl NodeBox {
     /// the node. Without a turn, and where it ends, that is a Take. No call but a Take is out. The
     /// node keeps its blocks, but for those that a message takes out.
     pub fn says(&mut self) -> Say
-        requires idle { self.old.awaited_call ≡ AwaitedCall.Nothing }
+        requires idle { IsIdleBox self.old }
         ensures call { call_of_say result ≡ (says self.old.node).call }
         ensures node { self.new.node ≡ (says self.old.node).node }
         ensures room { self.new.room ≡ self.old.room }
@@ -103,7 +104,7 @@ impl NodeBox {
         ensures node { self.new.node
             ≡ node_after_hearing images.now self.old.node (hearing_model hearing) }
         ensures room { self.new.room ≡ self.old.room }
-        ensures out { self.new.awaited_call ≡ AwaitedCall.Nothing }
+        ensures out { IsIdleBox self.new }
     {
         self.node.hears(images, hearing);
         self.awaited_call = AwaitedCall::Nothing;
@@ -121,7 +122,7 @@ impl NodeBox {
     /// store has room for them, and their names and those in it all differ. No call but a Take is
     /// out.
     pub fn scrub(&mut self, out: &mut Store)
-        requires idle { self.old.awaited_call ≡ AwaitedCall.Nothing }
+        requires idle { IsIdleBox self.old }
         requires room { length (blocks_of self.old.node) ≤ out.old.spare }
         requires apart { AreNewToStore (blocks_of self.old.node) out.old }
         ensures after { self.new ≡ record self.old { node = scrubbed_node self.old.node } }
@@ -147,13 +148,28 @@ impl NodeBox {
 }
 
 impl Homed for NodeBox {
-    ghost use Rattle.rk_node.specs.Boxes.{IsCleanBox};
+    ghost use Rattle.rk_node.specs.Boxes.{IsCleanBox, home_of};
 
-    ghost home = { λ node_box. node_box.node.home };
+    ghost home = { home_of };
 
     ghost clean = { IsCleanBox };
 
     fn home(&self) -> u32 {
         self.node.home
     }
+}
+
+/// The clean boxes of the nodes of a machine of this dimension, `GREATEST_DIMENSION` at most, by
+/// number. `NoMemory` may come at any time.
+#[tactic(auto, using(ce_model::specs::Limits::greatest_dim_lem, ce_model::specs::Limits::greatest_blocks_lem, ce_model::specs::Limits::home_blocks_lem))]
+pub fn node_boxes(alloc: Global, dim: u32) -> Result<Vec<NodeBox>, NoMemory>
+    requires { dim ≤ greatest_dim }
+    ensures { IfOk result (λ boxes.
+        AreBoxes home_of IsCleanBox (2 ^ dim) (λ node. node) boxes.items) }
+{
+    let mut boxes = Vec::new(alloc);
+    for node in 0..1_u32 << dim {
+        boxes.push(NodeBox::new(alloc, node, GREATEST_BLOCKS)?)?;
+    }
+    Ok(boxes)
 }

@@ -8,6 +8,7 @@ use super::*;
 use ce_model::{BlockId, GREATEST_BLOCKS, HOST, Place, Status, Stop};
 use rk_mail::{Batch, Hearing, Say};
 use rv_image::Image;
+use rv_model::PRIVATE_START;
 use std::alloc::Global;
 use std::test::Fail;
 use xm_block::{Block, Store};
@@ -33,7 +34,7 @@ fn gone_image(alloc: Global) -> Result<Image, Fail> {
     for word in GONE {
         bytes.extend_from_slice(&word.to_le_bytes())?;
     }
-    Ok(Image::of_parts(0x0001_0000, bytes, 0)?)
+    Ok(Image::of_parts(PRIVATE_START, bytes, 0)?)
 }
 
 // A box of home 0, as the node of a cube of one node with one image, that has asked for its first

@@ -7,14 +7,14 @@ use Rattle.rv_model.specs.declared.stop.Stop.{Stop}
 use Rattle.rv_model.specs.declared.stop.Stop.TheVariants.{Gone, Misaligned, Unmapped, PastEnd}
 use Rattle.rv_model.specs.declared.limits.TheConstants.{PRIVATE_START}
 use Rattle.rv_model.specs.Private.{is_private}
-use Rattle.rv_model.specs.Exec.{Outcome, next_state, call_state, stop_state, exec}
+use Rattle.rv_model.specs.Exec.{Outcome, next_state, call_state, stop_state, step_outcome}
 use Rattle.ce_model.specs.Limits.{window_base, window_base_lem}
 use Rattle.ce_model.specs.Blocks.{Block}
 use Rattle.ce_model.specs.Space.{Space, AccessSite, private_site, block_site, access_site, site_in, window_of, offset_of, load_result, store_result, number_in, with_number_in, result_map, process_access}
 use Rattle.ce_model.specs.Process.{Process, TurnEnd, end_after, moved_process, turn_end}
 use Rattle.rk_process.specs.Windows.{is_within_block}
 use Rattle.rk_process.specs.Lives.{LifeEvent, run, answer, mapping, unmapping, end, process_of_end, process_after_event, process_after_events, IsWindowGone}
-use Rattle.rk_process.proofs.Keeping.{IsLeftWith, exec-leaves}
+use Rattle.rk_process.proofs.Keeping.{IsLeftWith, step_outcome-leaves}
 use Rattle.rk_process.proofs.Reaching.{reached_by, reached_spent}
 
 same_Ok : {X : Type 0} {x y : X} → ◌≡◌ {A = Result X Stop} (Ok x) (Ok y) → x ≡ y
@@ -77,8 +77,8 @@ stored-by space left a size n k (Ok (block_site j block o)) e h gone =
     (get-set k j space.windows _ gone (λ same. absurd (let bad : ◌≡◌ {A = Option (Option Block)} (Some (Some block)) (Some None) = sym held ∙ ap (slice_get space.windows) same ∙ gone in cc)))
 
 module _ (k : ℕ) where
-  exec-gone : (x : List ℕ) (pc : ℕ) (space : Space) → IsWindowGone k space → IsLeftWith (IsWindowGone k) (exec process_access x pc space)
-  exec-gone = exec-leaves process_access (IsWindowGone k) (λ m left a size n e gone. stored-by m left a size n k (access_site m a size) refl e gone)
+  step_outcome-gone : (x : List ℕ) (pc : ℕ) (space : Space) → IsWindowGone k space → IsLeftWith (IsWindowGone k) (step_outcome process_access x pc space)
+  step_outcome-gone = step_outcome-leaves process_access (IsWindowGone k) (λ m left a size n e gone. stored-by m left a size n k (access_site m a size) refl e gone)
 
   led-gone : (onward : Process → TurnEnd) (left : ℕ) (p : Process) (outcome : Outcome Space)
       → ((q : Process) → IsWindowGone k q.space → IsWindowGone k (process_of_end (onward q)).space) → IsWindowGone k p.space → IsLeftWith (IsWindowGone k) outcome → IsWindowGone k (process_of_end (end_after onward left p outcome)).space
@@ -89,8 +89,8 @@ module _ (k : ℕ) where
   reached-gone : (left : ℕ) (p : Process) → IsWindowGone k p.space → IsWindowGone k (process_of_end (turn_end left p)).space
   reached-gone zero p gone = subst (λ (r : TurnEnd). IsWindowGone k (process_of_end r).space) (sym (reached_spent zero p refl)) gone
   reached-gone (suc left) p gone =
-      subst (λ (r : TurnEnd). IsWindowGone k (process_of_end r).space) (sym (reached_by (suc left) left p (exec process_access p.registers p.pc p.space) refl refl))
-      (led-gone (turn_end left) left p (exec process_access p.registers p.pc p.space) (reached-gone left) gone (exec-gone p.registers p.pc p.space gone))
+      subst (λ (r : TurnEnd). IsWindowGone k (process_of_end r).space) (sym (reached_by (suc left) left p (step_outcome process_access p.registers p.pc p.space) refl refl))
+      (led-gone (turn_end left) left p (step_outcome process_access p.registers p.pc p.space) (reached-gone left) gone (step_outcome-gone p.registers p.pc p.space gone))
 
   moment-gone : (p : Process) (moment : LifeEvent) → IsWindowGone k p.space → IsWindowGone k (process_after_event p moment).space
   moment-gone p (run left) gone = reached-gone left p gone

@@ -5,8 +5,8 @@ use Rattle.std.proofs.lemmas.Bool.{cases_Bool}
 use Rattle.rv_model.specs.declared.stop.Stop.{Stop}
 use Rattle.rv_model.specs.declared.inst.Inst.{Inst}
 use Rattle.rv_model.specs.declared.inst.Inst.TheVariants.{Lui, Auipc, Jal, Jalr, Branch, Load, Store, OpImm, Op, Fence, Ecall, Ebreak}
-use Rattle.rv_model.specs.Exec.{Access, Outcome, next_state, call_state, stop_state, ◌>>=◌, effect_of, jump_outcome, exec, is_taken, register_value, with_register, next_pc, offset_by, load_size, store_size, loaded_number}
-use Rattle.rv_model.specs.Words.{dec}
+use Rattle.rv_model.specs.Exec.{Access, Outcome, next_state, call_state, stop_state, ◌>>=◌, effect_of, jump_outcome, step_outcome, is_taken, register_value, with_register, next_pc, offset_by, load_size, store_size, loaded_number}
+use Rattle.rv_model.specs.Words.{instruction_of}
 use Rattle.rv_model.specs.declared.stop.Stop.TheVariants.{Illegal}
 
 -- the memory that an instruction leaves, if it leaves one, has a property
@@ -48,8 +48,8 @@ module _ {M : Type 0} (A : Access M) (P : M → Type 0) (stores : (m left : M) (
   performed-leaves Ecall x pc m p = p
   performed-leaves Ebreak x pc m p = tt
 
-  pub exec-leaves : (x : List ℕ) (pc : ℕ) (m : M) → P m → IsLeftWith P (exec A x pc m)
-  unfolding exec
-  exec-leaves x pc m p =
-      after (A.fetch m pc) (λ word. ok_or (dec word) (Illegal pc word) >>= (λ inst. effect_of A inst x pc m))
-      (λ word e. after (ok_or (dec word) (Illegal pc word)) (λ inst. effect_of A inst x pc m) (λ inst d. performed-leaves inst x pc m p))
+  pub step_outcome-leaves : (x : List ℕ) (pc : ℕ) (m : M) → P m → IsLeftWith P (step_outcome A x pc m)
+  unfolding step_outcome
+  step_outcome-leaves x pc m p =
+      after (A.fetch m pc) (λ word. ok_or (instruction_of word) (Illegal pc word) >>= (λ inst. effect_of A inst x pc m))
+      (λ word e. after (ok_or (instruction_of word) (Illegal pc word)) (λ inst. effect_of A inst x pc m) (λ inst d. performed-leaves inst x pc m p))

@@ -237,19 +237,19 @@ fn run(
     ensures rest { memory_rest memory.new ≡ memory_rest memory.old }
 {
     let mut next_pc = *pc;
-    let mut remaining = *instructions_left;
-    while remaining > 0 {
-        remaining -= 1;
+    let mut left_count = *instructions_left;
+    while left_count > 0 {
+        left_count -= 1;
         match step(registers, &mut next_pc, memory) {
             Event::Advance => {}
             Event::Call => {
                 *pc = next_pc;
-                *instructions_left = remaining;
+                *instructions_left = left_count;
                 return Pause::Call;
             }
             Event::Stopped(cause) => {
                 *pc = next_pc;
-                *instructions_left = remaining;
+                *instructions_left = left_count;
                 return Pause::Stopped(cause);
             }
         }

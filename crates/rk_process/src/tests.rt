@@ -1,28 +1,28 @@
 // The instruction words were worked out by hand from the RISC-V unprivileged specification.
-ghost use Rattle.std.specs.Prelude.{◌≡◌, ◌≤◌, ◌<◌, ◌+◌, ℕ, [], None, IfOk};
+ghost use Rattle.std.specs.Prelude.{◌≡◌, ◌≤◌, ◌<◌, ◌+◌, ℕ, None, IfOk};
 ghost use Rattle.ce_model.specs.Limits.{block_room, window_count};
 ghost use Rattle.xm_owner.specs.Holdings.{block_held_at};
 
 use super::*;
-use ce_model::{BlockId, Status};
+use ce_model::calls::NUMBER_ARGUMENT;
+use ce_model::{BlockId, Status, WINDOW_BASE, WINDOW_SIZE};
 use rv_image::Image;
-use rv_model::{A0, Register, Stop};
+use rv_model::{A0, PRIVATE_START, Register, Stop};
 use std::alloc::Global;
+use std::process::Abort;
 use std::test::Fail;
 use xm_block::{Block, Store};
 use xm_owner::HeldBlocks;
 
-const ENTRY: u32 = 0x0001_0000;
-
 // The register of a kernel call's number.
-const A7: u8 = A0 + 7;
+const A7: u8 = A0 + NUMBER_ARGUMENT as u8;
 
 fn image(alloc: Global, words: &[u32]) -> Result<Image, Fail> {
     let mut bytes = Vec::new(alloc);
     for word in words {
         bytes.extend_from_slice(&word.to_le_bytes())?;
     }
-    Ok(Image::of_parts(ENTRY, bytes, 0)?)
+    Ok(Image::of_parts(PRIVATE_START, bytes, 0)?)
 }
 
 fn block(alloc: Global, index: u32) -> Result<Block, Fail>
@@ -39,32 +39,37 @@ fn openings(rt: HostRuntime) -> Result<(), Fail> {
     Ok(())
 }
 
+// Checks what loads of process `pid` at these addresses answer.
+fn check_loads(
+    rt: &impl Abort,
+    process: &Process,
+    pid: u32,
+    held_blocks: &HeldBlocks,
+    rows: &[(u32, Result<u32, Stop>)],
+) {
+    for (address, answer) in rows {
+        assert_eq!(rt;
+            process.load_word(pid, held_blocks, *address),
+            *answer,
+            "{address:x}"
+        );
+    }
+}
+
 #[test]
 fn rules_of_private_memory(rt: HostRuntime) -> Result<(), Fail> {
     let held_blocks = HeldBlocks::new(rt.alloc(), 0)?;
     let process = Process::new(rt.alloc())?;
-    assert_eq!(rt;
-        process.load_word(4, &held_blocks, 0x0001_0001),
-        Err(Stop::Misaligned(0x0001_0001))
-    );
-    assert_eq!(rt; process.load_word(4, &held_blocks, 0x0001_0000), Ok(0));
-    assert_eq!(rt;
-        process.load_word(4, &held_blocks, 0x0000_FFFC),
-        Err(Stop::Unmapped(0x0000_FFFC))
-    );
-    assert_eq!(rt; process.load_word(4, &held_blocks, 0x0002_FFFC), Ok(0));
-    assert_eq!(rt;
-        process.load_word(4, &held_blocks, 0x0003_0000),
-        Err(Stop::Unmapped(0x0003_0000))
-    );
-    assert_eq!(rt;
-        process.load_word(4, &held_blocks, 0x7FFF_FFFC),
-        Err(Stop::Unmapped(0x7FFF_FFFC))
-    );
-    assert_eq!(rt;
-        process.load_word(4, &held_blocks, 0x8000_0000),
-        Err(Stop::Unmapped(0x8000_0000))
-    );
+    let rows = [
+        (0x0001_0001, Err(Stop::Misaligned(0x0001_0001))),
+        (0x0001_0000, Ok(0)),
+        (0x0000_FFFC, Err(Stop::Unmapped(0x0000_FFFC))),
+        (0x0002_FFFC, Ok(0)),
+        (0x0003_0000, Err(Stop::Unmapped(0x0003_0000))),
+        (0x7FFF_FFFC, Err(Stop::Unmapped(0x7FFF_FFFC))),
+        (0x8000_0000, Err(Stop::Unmapped(0x8000_0000))),
+    ];
+    check_loads(&rt, &process, 4, &held_blocks, &rows);
     Ok(())
 }
 
@@ -77,44 +82,24 @@ fn rules_of_windows(rt: HostRuntime) -> Result<(), Fail> {
     bytes.fill(&[1, 2, 3, 4, 5, 6, 7, 8]);
     held_blocks.map(4, process.give_window(), bytes);
     assert_eq!(rt; process.windows(), 1);
-    assert_eq!(rt;
-        process.load_word(4, &held_blocks, 0x8000_0001),
-        Err(Stop::Misaligned(0x8000_0001))
-    );
-    assert_eq!(rt;
-        process.load_word(4, &held_blocks, 0x8000_0000),
-        Ok(0x0403_0201)
-    );
-    assert_eq!(rt;
-        process.load_word(4, &held_blocks, 0x8000_0004),
-        Ok(0x0807_0605)
-    );
-    assert_eq!(rt;
-        process.load_word(4, &held_blocks, 0x8000_0008),
-        Err(Stop::PastEnd(0x8000_0008))
-    );
-    assert_eq!(rt;
-        process.load_word(4, &held_blocks, 0x8001_0000),
-        Err(Stop::Unmapped(0x8001_0000))
-    );
-    assert_eq!(rt;
-        process.load_word(5, &held_blocks, 0x8000_0000),
-        Err(Stop::Gone(0x8000_0000))
-    );
+    let rows = [
+        (0x8000_0001, Err(Stop::Misaligned(0x8000_0001))),
+        (0x8000_0000, Ok(0x0403_0201)),
+        (0x8000_0004, Ok(0x0807_0605)),
+        (0x8000_0008, Err(Stop::PastEnd(0x8000_0008))),
+        (0x8001_0000, Err(Stop::Unmapped(0x8001_0000))),
+    ];
+    check_loads(&rt, &process, 4, &held_blocks, &rows);
+    let other_rows = [(0x8000_0000, Err(Stop::Gone(0x8000_0000)))];
+    check_loads(&rt, &process, 5, &held_blocks, &other_rows);
     assert!(rt; held_blocks.unmap(4, 0).is_some());
     windows_stay_gone_law();
-    assert_eq!(rt;
-        process.load_word(4, &held_blocks, 0x8000_0001),
-        Err(Stop::Misaligned(0x8000_0001))
-    );
-    assert_eq!(rt;
-        process.load_word(4, &held_blocks, 0x8000_0000),
-        Err(Stop::Gone(0x8000_0000))
-    );
-    assert_eq!(rt;
-        process.load_word(4, &held_blocks, 0x8000_FFFC),
-        Err(Stop::Gone(0x8000_FFFC))
-    );
+    let later_rows = [
+        (0x8000_0001, Err(Stop::Misaligned(0x8000_0001))),
+        (0x8000_0000, Err(Stop::Gone(0x8000_0000))),
+        (0x8000_FFFC, Err(Stop::Gone(0x8000_FFFC))),
+    ];
+    check_loads(&rt, &process, 4, &held_blocks, &later_rows);
     Ok(())
 }
 
@@ -128,22 +113,19 @@ fn sizes(rt: HostRuntime) -> Result<(), Fail> {
         rt.alloc(),
         &[0x8000_1537, 0xFE25_2E23, 0x8001_0537, 0x0005_0583],
     )?);
-    let mut full = block(rt.alloc(), 0)?;
-    full.reset(4096);
-    held_blocks.map(0, process.give_window(), full);
+    let mut full_block = block(rt.alloc(), 0)?;
+    full_block.reset(4096);
+    held_blocks.map(0, process.give_window(), full_block);
     held_blocks.map(0, process.give_window(), block(rt.alloc(), 1)?);
     let mut instructions_left = 10;
     let pause = process.run_to_call(0, &mut held_blocks, &mut instructions_left);
     assert_eq!(rt; pause, Pause::Stopped(Stop::PastEnd(0x8001_0000)));
     assert_eq!(rt; instructions_left, 6);
-    assert_eq!(rt;
-        process.load_word(0, &held_blocks, 0x8000_0FFC),
-        Ok(0x0003_0000)
-    );
-    assert_eq!(rt;
-        process.load_word(0, &held_blocks, 0x8000_1000),
-        Err(Stop::PastEnd(0x8000_1000))
-    );
+    let rows = [
+        (0x8000_0FFC, Ok(0x0003_0000)),
+        (0x8000_1000, Err(Stop::PastEnd(0x8000_1000))),
+    ];
+    check_loads(&rt, &process, 0, &held_blocks, &rows);
     Ok(())
 }
 
@@ -168,7 +150,7 @@ fn run_to_a_call(rt: HostRuntime) -> Result<(), Fail> {
     process.reset();
     assert_eq!(rt; process.status(), Status::Unborn);
     assert_eq!(rt; process.register(Register::a0()), 0);
-    assert_eq!(rt; process.load_word(0, &held_blocks, ENTRY), Ok(0));
+    assert_eq!(rt; process.load_word(0, &held_blocks, PRIVATE_START), Ok(0));
     Ok(())
 }
 
@@ -185,14 +167,23 @@ fn memory_starts_anew(rt: HostRuntime) -> Result<(), Fail> {
         Pause::Call
     );
     assert_eq!(rt;
-        process.load_word(0, &held_blocks, ENTRY + 64),
+        process.load_word(0, &held_blocks, PRIVATE_START + 64),
         Ok(0x0003_0000)
     );
     process.reset();
     process.start(&image(rt.alloc(), &[0x0000_0073])?);
-    assert_eq!(rt; process.load_word(0, &held_blocks, ENTRY), Ok(0x0000_0073));
-    assert_eq!(rt; process.load_word(0, &held_blocks, ENTRY + 4), Ok(0));
-    assert_eq!(rt; process.load_word(0, &held_blocks, ENTRY + 64), Ok(0));
+    assert_eq!(rt;
+        process.load_word(0, &held_blocks, PRIVATE_START),
+        Ok(0x0000_0073)
+    );
+    assert_eq!(rt;
+        process.load_word(0, &held_blocks, PRIVATE_START + 4),
+        Ok(0)
+    );
+    assert_eq!(rt;
+        process.load_word(0, &held_blocks, PRIVATE_START + 64),
+        Ok(0)
+    );
     Ok(())
 }
 
@@ -208,18 +199,6 @@ fn turn_spent(rt: HostRuntime) -> Result<(), Fail> {
     assert_eq!(rt; instructions_left, 0);
     let again = process.run_to_call(0, &mut held_blocks, &mut instructions_left);
     assert_eq!(rt; again, Pause::Stopped(Stop::TurnSpent));
-    Ok(())
-}
-
-// Gives the 32 blocks of home 0 to an empty store.
-fn fill(alloc: Global, store: &mut Store) -> Result<(), Fail>
-    requires empty { store.old.blocks ≡ [] }
-    requires room { 33 ≤ store.old.spare }
-    ensures { 1 ≤ store.new.spare }
-{
-    for index in 0..32 {
-        store.give(block(alloc, index)?);
-    }
     Ok(())
 }
 
@@ -245,35 +224,34 @@ fn allocate(
 {
     match store.take_least() {
         None => 0,
-        Some(mut taken) => {
-            taken.reset(length);
+        Some(mut taken_block) => {
+            taken_block.reset(length);
             let window = process.give_window();
-            held_blocks.map(0, window, taken);
-            0x8000_0000 + window * 0x1_0000
+            held_blocks.map(0, window, taken_block);
+            WINDOW_BASE + WINDOW_SIZE * window
         }
     }
 }
 
 #[test]
-#[tactic(auto, unfolding(ce_model::specs::Limits::window_count, ce_model::specs::Limits::block_room))]
+#[tactic(auto, unfolding(ce_model::specs::Limits::window_count, ce_model::specs::Limits::block_room, ce_model::specs::Limits::home_blocks))]
 fn store(rt: HostRuntime) -> Result<(), Fail> {
     let mut held_blocks = HeldBlocks::new(rt.alloc(), 40)?;
     let mut process = Process::new(rt.alloc())?;
-    let mut store = Store::new(rt.alloc(), 40)?;
-    fill(rt.alloc(), &mut store)?;
+    let mut store = Store::of_home(rt.alloc(), 0, 40)?;
     for k in 0..32u32 {
         let address = allocate(&mut process, &mut held_blocks, &mut store, 16);
-        assert_eq!(rt; address, 2_147_483_648 + 65_536 * k);
+        assert_eq!(rt; address, WINDOW_BASE + WINDOW_SIZE * k);
     }
     assert_eq!(rt; allocate(&mut process, &mut held_blocks, &mut store, 16), 0);
     assert_eq!(rt; store.count(), 0);
     match held_blocks.unmap(0, 0) {
-        Some(freed) => store.give(freed),
+        Some(freed_block) => store.give(freed_block),
         None => panic!(rt; "window 0 is empty"),
     }
     assert_eq!(rt;
         allocate(&mut process, &mut held_blocks, &mut store, 16),
-        2_149_580_800
+        WINDOW_BASE + WINDOW_SIZE * 32
     );
     assert_eq!(rt; process.windows(), 33);
     Ok(())

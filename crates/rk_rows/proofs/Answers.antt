@@ -1,24 +1,21 @@
 -- Which answers a box can hear.
 use Rattle.std.proofs.Common.{◌≡◌, ℕ, ◌<◌, ◌≤◌, Bool, true, false, List, [], ◌∷◌, length, find, slice_get, Option, Some, None, IsTrue, refl, ap, sym, subst, arith, inl, inr}
-use Rattle.std.proofs.lemmas.Bool.{both_ways}
 use Rattle.rv_model.specs.Image.{ImageParts}
 use Rattle.ce_model.specs.declared.topology.BlockId.{BlockId}
 use Rattle.ce_model.specs.declared.topology.Place.{Place}
 use Rattle.ce_model.specs.declared.entry.KillResult.{KillResult}
 use Rattle.ce_model.specs.declared.entry.KillResult.TheVariants.{Killed, Unused, Already}
-use Rattle.ce_model.specs.declared.process.Status.{Status}
-use Rattle.ce_model.specs.declared.process.Status.TheVariants.{Unborn, Running, Asking, Polling, Stopped}
 use Rattle.ce_model.specs.Limits.{home_blocks_lem, greatest_blocks, greatest_blocks_lem}
 use Rattle.ce_model.specs.Blocks.{blocks_of_home}
 use Rattle.ce_model.specs.Lists.{without_first}
 use Rattle.ce_model.specs.Parcels.{Item, start, mail, kill, is_eligible}
 use Rattle.ce_model.specs.Process.{is_receiving, is_stopped}
 use Rattle.ce_model.specs.Node.{Node, Call, take_call, spawn_call, kill_call, blocks_of, process_set, take_call_of}
-use Rattle.ce_model.specs.Sound.{is_unborn}
+use Rattle.ce_model.proofs.Subcubes.{find-passes}
 use Rattle.ce_solo.proofs.Counting.{hit-self, count, count-nil, count-one}
 use Rattle.ce_solo.proofs.Items.{parcel_ids}
 use Rattle.ce_solo.proofs.Words.{call_ids}
-use Rattle.ce_solo.proofs.HandedOver.{find-passes}
+use Rattle.ce_solo.proofs.Fresh.{rising-home}
 use Rattle.rk_mail.specs.declared.talk.Hearing.{Hearing}
 use Rattle.rk_mail.specs.declared.talk.Hearing.TheVariants.{Poll, Idle}
 use Rattle.rk_mail.specs.declared.talk.Hearing.TheVariants as hearings
@@ -27,21 +24,9 @@ use Rattle.rk_node.specs.Boxes.{Box}
 use Rattle.rk_node.specs.Answering.{IsBoxWork}
 use Rattle.xm_block.proofs.HomeBlocks.{length-blocks_of_home}
 use Rattle.rk_node.proofs.Names.{not_contained}
-use Rattle.rk_node.proofs.Sorted.{once-rising, rising-home}
+use Rattle.rk_node.proofs.Sorted.{once-rising}
 use Rattle.rk_rows.specs.Lone.{hearing_ids, AreAtOnePlace, HasQueued, IsEligibleItem, IsAnswerable, IsAnsweredAlone}
 use Rattle.rk_rows.proofs.Counts.{length-counts, taken-ids}
-
--- ---- processes that were started, and that weren't
-
-pub unborn-is : (status : Status) → is_unborn status ≡ true → status ≡ Unborn
-unborn-is Unborn is = refl
-unborn-is Running is = absurd (cc)
-unborn-is Asking is = absurd (cc)
-unborn-is Polling is = absurd (cc)
-unborn-is (Stopped cause) is = absurd (cc)
-
-pub born-is : (status : Status) → is_unborn status ≡ false → ¬ (status ≡ Unborn)
-born-is status born e = absurd (both_ways (is_unborn status) born (ap is_unborn e))
 
 -- ---- what a Take says
 

@@ -1,18 +1,18 @@
 -- What a box that said something, and heard the answer, is.
-use Rattle.std.proofs.Common.{◌≡◌, ℕ, ◌+◌, ◌≤◌, List, [], ◌∷◌, length, Some, None, IfSome, true, if◌then◌else◌, slice_get, refl, ap, sym, ◌∙◌, subst, arith, inl, inr}
-use Rattle.std.proofs.lemmas.Bool.{cases_Bool}
+use Rattle.std.proofs.Common.{◌≡◌, ℕ, ◌+◌, ◌≤◌, List, [], length, None, IfSome, refl, ap, sym, ◌∙◌, subst, arith}
 use Rattle.rv_model.specs.Image.{ImageParts}
 use Rattle.ce_model.specs.declared.topology.BlockId.{BlockId}
 use Rattle.ce_model.specs.Limits.{greatest_blocks}
 use Rattle.ce_model.specs.Node.{Node, Call, process_at, blocks_of}
 use Rattle.ce_model.specs.Saying.{says}
 use Rattle.ce_model.specs.Hearing.{node_after_hearing}
-use Rattle.ce_model.specs.Sound.{is_unborn, is_polling, IsSoundTurn}
+use Rattle.ce_model.specs.Sound.{is_unborn, IsSoundTurn}
 use Rattle.ce_solo.proofs.Counting.{count, count-nil}
-use Rattle.ce_solo.proofs.Nodes.{polls, IsWell}
+use Rattle.ce_solo.proofs.Nodes.{IsWell}
 use Rattle.ce_solo.proofs.Items.{parcel_ids}
 use Rattle.ce_solo.proofs.Says.{says-said}
 use Rattle.ce_solo.proofs.Hears.{HasHeardAnswer, mail-hears, nothing-hears, kill-hears, poll-hears, told-hears, receiving_is, start-begins}
+use Rattle.ce_solo.proofs.NodeTakes.{poller-polls}
 use Rattle.rk_mail.specs.declared.talk.Hearing.{Hearing}
 use Rattle.rk_mail.specs.declared.talk.Hearing.TheVariants.{Start, Mail, Kill, Poll, Idle, Spent, Posted, Spawned, Used, Killed, Unused, Already, Noted}
 use Rattle.rk_mail.specs.Queue.{Queue}
@@ -23,7 +23,6 @@ use Rattle.rk_node.specs.Boxes.{Box, fresh_node_at}
 use Rattle.rk_node.specs.Answering.{IsAwaitingAnswer, IsAbleToHear}
 use Rattle.rk_node.specs.Withdrawal.{HasTakenOut}
 use Rattle.rk_node.proofs.Answered.{once-come, born_status, polling-receives, take-idle, work-of}
-use Rattle.rk_node.proofs.Polling.{polls-head}
 use Rattle.rk_node.proofs.Sorted.{idle-well, idle-fresh, idle-blocks}
 use Rattle.rk_rows.specs.Lone.{hearing_ids, HasQueued, IsAnswerable, IsAnsweredAlone, IsAloneAtRest}
 
@@ -76,18 +75,6 @@ heard-after node node' come node_after_hearing = record {
   images = node_after_hearing.became.images;
   blocks = λ id. omega (arith, node_after_hearing.became.blocks id, count-nil id);
 }
-
-first-polls : (pid : ℕ) (polling : List ℕ) → slice_get polling 0 ≡ Some pid → 1 ≤ polls pid polling
-first-polls pid [] e = absurd (cc)
-first-polls pid (x ∷ xs) e = let same : x ≡ pid = cc in subst (λ q. 1 ≤ polls q (x ∷ xs)) same (polls-head x xs)
-
--- the one that polls longest polls
-poller-polls : (node : Node) (pid : ℕ) → IsWell node.turn node → slice_get node.polling_ids 0 ≡ Some pid → is_polling (process_at node pid).status ≡ true
-poller-polls node pid well e =
-    elim (cases_Bool (is_polling (process_at node pid).status)) [
-      | inl t ↦ t
-      | inr f ↦ absurd (omega (arith, first-polls pid node.polling_ids e, well.polling_ids pid, ap {B = ℕ} (λ b. if b then 1 else 0) f))
-    ]
 
 module _ (images : List ImageParts) (box : Box) (well : IsWell box.node.turn box.node) (sound : IfSome box.node.turn IsSoundTurn) where
   well-idle : box.node.turn ≡ None → IsWell None box.node

@@ -19,8 +19,7 @@ use Rattle.rk_mail.specs.declared.talk.Hearing.TheVariants.{Mail}
 use Rattle.rk_mail.specs.Queue.{Queue}
 use Rattle.rk_mail.specs.Talk.{hearing_model}
 use Rattle.rk_mail.specs.Targets.{targets_of}
-use Rattle.rk_node.specs.declared.awaited_call.AwaitedCall.TheVariants.{Nothing}
-use Rattle.rk_node.specs.Boxes.{Box}
+use Rattle.rk_node.specs.Boxes.{Box, IsIdleBox}
 use Rattle.rk_node.specs.Answering.{IsAwaitingAnswer, IsEligibleForBox, IsAbleToHear}
 
 -- the names of the blocks of a message
@@ -39,9 +38,9 @@ pub record AreAtOnePlace (node : Node) (away_ids : List BlockId) (items : List I
       + count id (parcel_ids items) ≤ count id (blocks_of_home 0)
 
 -- no more blocks than these wait that didn't wait before
-pub record HasQueued (ids : List BlockId) (before after : List Item) : Type 0 where
-  pub counts : (id : BlockId) → count id (parcel_ids after) ≤ count id (parcel_ids before)
-      + count id ids
+pub record HasQueued (ids : List BlockId) (old_items new_items : List Item) : Type 0 where
+  pub counts : (id : BlockId) → count id (parcel_ids new_items)
+      ≤ count id (parcel_ids old_items) + count id ids
 
 -- an item can be given to the box
 abbrev pub IsEligibleItem : Box → Item → Type 0
@@ -62,7 +61,7 @@ pub record IsAnsweredAlone (images : List ImageParts) (box : Box) (hearing : Hea
 
 -- no call of the box but a Take is out, and each of its blocks is at one place
 pub record IsAloneAtRest (box : Box) (image_list : List ImageParts) (queue : Queue) : Type 0 where
-  pub idle : box.awaited_call ≡ Nothing
+  pub idle : IsIdleBox box
   pub well : IsWell box.node.turn box.node
   pub sound : IfSome box.node.turn IsSoundTurn
   pub images : length image_list ≡ box.node.images
@@ -70,10 +69,10 @@ pub record IsAloneAtRest (box : Box) (image_list : List ImageParts) (queue : Que
   pub places : AreAtOnePlace box.node [] queue.items
 
 -- the box has said what it says, and has heard an answer that it could hear
-pub record HasExchangedAlone (before after : Box) : Type 0 where
+pub record HasExchangedAlone (old_box new_box : Box) : Type 0 where
   pub images : List ImageParts
   pub box_after : Box
   pub hearing : Hearing
-  pub said_is : box_after.node ≡ (says before.node).node
+  pub said_is : box_after.node ≡ (says old_box.node).node
   pub can : IsAbleToHear images box_after hearing
-  pub heard_is : after.node ≡ node_after_hearing images box_after.node (hearing_model hearing)
+  pub heard_is : new_box.node ≡ node_after_hearing images box_after.node (hearing_model hearing)

@@ -152,7 +152,7 @@ impl LoneDesk {
         while let Some((to, block)) = batch.take_first() {
             self.deliver(from, to, block)?;
         }
-        self.transcript.end()?;
+        self.transcript.write_end()?;
         Ok(batch)
     }
 
@@ -169,7 +169,7 @@ impl LoneDesk {
         ensures { IfOk result (λ hearing. IsAnsweredAlone images.now node.now hearing
             self.new.mailbox.items) }
     {
-        let hearing = match self.mailbox.next(asking, dead) {
+        let hearing = match self.mailbox.take_next(asking, dead) {
             Some(item) => {
                 self.spare = self.spare.saturating_add(1);
                 hearing_of_item(node, images, item)?
@@ -179,7 +179,7 @@ impl LoneDesk {
                 None => Hearing::Idle,
             },
         };
-        self.transcript.take(asking, dead, poller, &hearing)?;
+        self.transcript.write_take(asking, dead, poller, &hearing)?;
         Ok(hearing)
     }
 
@@ -203,16 +203,16 @@ impl LoneDesk {
             Say::Send { pid, batch } => Ok(Hearing::Posted(self.send(pid, batch)?)),
             Say::Spawn { pid, image, to } => {
                 let is_fresh = self.accept_spawn(image, to.pid)?;
-                self.transcript.spawn(pid, image, to, is_fresh)?;
+                self.transcript.write_spawn(pid, image, to, is_fresh)?;
                 Ok(spawn_hearing(is_fresh))
             }
             Say::Kill { pid, to } => {
                 let found = self.accept_kill(to.pid)?;
-                self.transcript.kill(pid, to, found)?;
+                self.transcript.write_kill(pid, to, found)?;
                 Ok(kill_hearing(found))
             }
             Say::Note { pid, word } => {
-                self.transcript.note(pid, word)?;
+                self.transcript.write_note(pid, word)?;
                 Ok(Hearing::Noted)
             }
         }

@@ -5,10 +5,10 @@ use thiserror::Error;
 /// Why a command of a node that is driven by hand was not made. No further command is made then.
 #[derive(Clone, Copy, Debug, PartialEq, Eq, Error)]
 pub enum RowFault {
-    /// There are more than 64 images.
+    /// There are more than `GREATEST_IMAGES` images.
     #[error("too many images")]
     Images,
-    /// A process id is 8 or more, or a place is neither the node's nor the host's.
+    /// A process id is `PROCESS_COUNT` or more, or a place is neither the node's nor the host's.
     #[error("no place")]
     Place,
     /// No more items can wait.

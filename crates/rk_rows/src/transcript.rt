@@ -12,7 +12,7 @@ pub(crate) struct Transcript {
 impl Transcript {
     /// A Take: the ids that wait for a message, those that have stopped, who polls longest, and the
     /// answer.
-    pub fn take(
+    pub fn write_take(
         &mut self,
         asking: u32,
         dead: u32,
@@ -37,7 +37,7 @@ impl Transcript {
     }
 
     /// A word that a process noted.
-    pub fn note(&mut self, pid: u32, word: u32) -> Result<(), AllocError> {
+    pub fn write_note(&mut self, pid: u32, word: u32) -> Result<(), AllocError> {
         match &mut self.text {
             Some(text) => write!(text, "note {pid} {word}\n"),
             None => Ok(()),
@@ -45,7 +45,7 @@ impl Transcript {
     }
 
     /// A spawn, and whether the process id is fresh.
-    pub fn spawn(
+    pub fn write_spawn(
         &mut self,
         pid: u32,
         image: u32,
@@ -64,7 +64,7 @@ impl Transcript {
     }
 
     /// A kill, and what was found.
-    pub fn kill(&mut self, pid: u32, to: Place, found: KillResult) -> Result<(), AllocError> {
+    pub fn write_kill(&mut self, pid: u32, to: Place, found: KillResult) -> Result<(), AllocError> {
         let Some(text) = &mut self.text else {
             return Ok(());
         };
@@ -101,7 +101,7 @@ impl Transcript {
     }
 
     /// A message ends.
-    pub fn end(&mut self) -> Result<(), AllocError> {
+    pub fn write_end(&mut self) -> Result<(), AllocError> {
         match &mut self.text {
             Some(text) => write!(text, "\n"),
             None => Ok(()),

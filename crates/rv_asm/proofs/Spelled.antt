@@ -4,7 +4,7 @@ use Rattle.std.specs.Int.{w32, to_le_bytes, from_le_bytes}
 use Rattle.std.proofs.lemmas.List.{take_at}
 use Rattle.std.proofs.lemmas.Nat.{from_le_bytes-to_le_bytes_4}
 use Rattle.std.proofs.Math.Seq.{drop-append-add}
-use Rattle.rv_model.specs.Words.{dec}
+use Rattle.rv_model.specs.Words.{instruction_of}
 use Rattle.rv_inst.proofs.Joined.{one_word}
 use Rattle.rv_asm.specs.SecondPass.{Instruction, Plain}
 use Rattle.rv_asm.specs.Law.{parts_size, word_at, InstructionsDecode, PartsHaveOneSpelling}
@@ -23,9 +23,9 @@ word_in_front word rest bytes lt e =
     ap (word_at 0) e ∙ ap (from_le_bytes w32) (take_at (to_le_bytes w32 word) rest 4 refl) ∙ from_le_bytes-to_le_bytes_4 word lt
 
 pub decodes : InstructionsDecode
-decodes [] back inst bytes s = ap dec (word_in_front s.0 s.1 bytes s.2 s.4) ∙ s.3
-decodes (Instruction first ∷ front) back inst bytes s = ap dec (behind_word (parts_size front) s.0 s.1 bytes s.4) ∙ decodes front back inst s.1 s.5
-decodes (Plain plain ∷ front) back inst bytes s = ap dec (behind_bytes (parts_size front) plain s.0 bytes s.1) ∙ decodes front back inst s.0 s.2
+decodes [] back inst bytes s = ap instruction_of (word_in_front s.0 s.1 bytes s.2 s.4) ∙ s.3
+decodes (Instruction first ∷ front) back inst bytes s = ap instruction_of (behind_word (parts_size front) s.0 s.1 bytes s.4) ∙ decodes front back inst s.1 s.5
+decodes (Plain plain ∷ front) back inst bytes s = ap instruction_of (behind_bytes (parts_size front) plain s.0 bytes s.1) ∙ decodes front back inst s.0 s.2
 
 pub one_spelling : PartsHaveOneSpelling
 one_spelling [] first second s t = s ∙ sym t

@@ -68,7 +68,8 @@ layout_with_name layout name symbol = do
 -- `.equ name, n`
 unfoldable pub layout_with_number : LayoutSoFar → List ℕ → Result LayoutSoFar AsmKind
 layout_with_number layout operands = do
-  free ← refusal (is_taken layout.names (without_outer_blanks (cut_parts is_comma operands).0)) NameTaken
+  free ← refusal
+      (is_taken layout.names (without_outer_blanks (cut_parts is_comma operands).0)) NameTaken
   parts ← two_pieces operands
   values ← pair_judgment (name_piece parts.0) (number layout.names parts.1)
   layout_with_name layout parts.0 (Number values.1)
@@ -102,7 +103,8 @@ layout_with_labelled_statement line_number layout front None =
     layout_with_statement_text line_number layout (without_outer_blanks front)
 layout_with_labelled_statement line_number layout front (Some rest) = do
   named ← refusal (not (is_name (without_outer_blanks front))) UnknownWord
-  labelled_layout ← layout_with_name layout (without_outer_blanks front) (Label (PRIVATE_START + layout.size))
+  labelled_layout ← layout_with_name layout (without_outer_blanks front)
+      (Label (PRIVATE_START + layout.size))
   layout_with_statement_text line_number labelled_layout (without_outer_blanks rest)
 
 -- one line
@@ -119,12 +121,12 @@ abbrev pub judgment_at_line : {A : Type 0} → ℕ → Result A AsmKind → Resu
 judgment_at_line line_number (Ok x) = Ok x
 judgment_at_line line_number (Err kind) = Err (record { line = line_number; kind = kind })
 
--- lines, of which the first has the number behind this one
+-- lines, behind so many others
 unfoldable pub layout_with_lines : ℕ → LayoutSoFar → List (List ℕ) → Result LayoutSoFar AsmFault
-layout_with_lines before layout [] = Ok layout
-layout_with_lines before layout (line ∷ line_texts) = do
-  next_layout ← judgment_at_line (before + 1) (layout_with_line (before + 1) layout line)
-  layout_with_lines (before + 1) next_layout line_texts
+layout_with_lines line_count layout [] = Ok layout
+layout_with_lines line_count layout (line ∷ line_texts) = do
+  next_layout ← judgment_at_line (line_count + 1) (layout_with_line (line_count + 1) layout line)
+  layout_with_lines (line_count + 1) next_layout line_texts
 
 -- the first pass over a text
 unfoldable pub first_pass : List ℕ → Result LayoutSoFar AsmFault

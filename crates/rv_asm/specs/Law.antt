@@ -3,7 +3,7 @@ use Rattle.std.specs.Prelude.{◌≡◌, ℕ, ◌+◌, List, [], ◌∷◌, ◌+
 use Rattle.std.specs.Int.{w32, from_le_bytes}
 use Rattle.rv_model.specs.declared.limits.TheConstants.{WORD_SIZE}
 use Rattle.rv_model.specs.declared.inst.Inst.{Inst}
-use Rattle.rv_model.specs.Words.{dec}
+use Rattle.rv_model.specs.Words.{instruction_of}
 use Rattle.rv_asm.specs.SecondPass.{Part, Instruction, Plain}
 use Rattle.rv_asm.specs.Spelling.{IsSpellingOf}
 
@@ -20,7 +20,8 @@ word_at place bytes = from_le_bytes w32 (take WORD_SIZE (drop place bytes))
 -- the word at an instruction's place is decoded to the instruction
 abbrev pub InstructionsDecode : Type 0
 InstructionsDecode = (front back : List Part) (inst : Inst) (bytes : List ℕ)
-    → IsSpellingOf (front ++ Instruction inst ∷ back) bytes → dec (word_at (parts_size front) bytes)
+    → IsSpellingOf (front ++ Instruction inst ∷ back) bytes
+    → instruction_of (word_at (parts_size front) bytes)
     ≡ Some inst
 
 -- parts have one spelling

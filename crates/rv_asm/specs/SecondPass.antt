@@ -68,6 +68,7 @@ parts_of names address (statements.Zero count) = Ok (Plain (replicate count 0) �
 unfoldable pub second_pass : Names → ℕ → List PlacedStatement → Result (List Part) AsmFault
 second_pass names address [] = Ok []
 second_pass names address (placed_statement ∷ others) = do
-  statement_parts ← judgment_at_line placed_statement.line (parts_of names address placed_statement.statement)
+  statement_parts ← judgment_at_line placed_statement.line
+      (parts_of names address placed_statement.statement)
   later_parts ← second_pass names (address + size_of placed_statement.statement) others
   Ok (statement_parts ++ later_parts)

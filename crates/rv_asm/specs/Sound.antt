@@ -35,7 +35,8 @@ AreSound (statement ∷ others) = IsSoundStatement statement × AreSound others
 
 abbrev pub ArePlacedSound : List PlacedStatement → Type 0
 ArePlacedSound [] = Unit {0}
-ArePlacedSound (placed ∷ others) = IsSoundStatement placed.statement × ArePlacedSound others
+ArePlacedSound (placed_statement ∷ others) =
+    IsSoundStatement placed_statement.statement × ArePlacedSound others
 
 -- ---- no two proofs that statements are sound differ
 
@@ -74,7 +75,8 @@ IsSoundStatement-prop (statements.Address label) = hlevel props
 IsSoundStatement-prop (statements.Byte byte) = hlevel props
 IsSoundStatement-prop (statements.Zero count) = hlevel props
 
-pub ArePlacedSound-prop : (placed : List PlacedStatement) → IsProp (ArePlacedSound placed)
+pub ArePlacedSound-prop : (placed_statements : List PlacedStatement)
+    → IsProp (ArePlacedSound placed_statements)
 ArePlacedSound-prop [] = hlevel props
 ArePlacedSound-prop (one ∷ others) =
     hlevel (props, IsSoundStatement-prop one.statement, ArePlacedSound-prop others)

@@ -1,7 +1,7 @@
 -- The bytes of an image, and its parts.
 use Rattle.std.specs.Prelude.{◌≡◌, ℕ, ◌^◌, ◌<◌, List, [], ◌∷◌, ◌++◌, Some, Result, Ok, Err}
 use Rattle.std.specs.Int.{w32, to_le_bytes}
-use Rattle.rv_model.specs.Words.{dec}
+use Rattle.rv_model.specs.Words.{instruction_of}
 use Rattle.rv_asm.specs.declared.fault.AsmKind.{AsmKind}
 use Rattle.rv_asm.specs.declared.fault.AsmFault.{AsmFault}
 use Rattle.rv_asm.specs.declared.fault.Halt.{Halt}
@@ -12,7 +12,7 @@ use Rattle.rv_asm.specs.SecondPass.{Part, Instruction, Plain}
 abbrev pub IsSpellingOf : List Part → List ℕ → Type 0
 IsSpellingOf [] bytes = bytes ≡ []
 IsSpellingOf (Instruction inst ∷ parts) bytes =
-    (word : ℕ) × (rest : List ℕ) × (word < 2 ^ 32) × (dec word ≡ Some inst)
+    (word : ℕ) × (rest : List ℕ) × (word < 2 ^ 32) × (instruction_of word ≡ Some inst)
     × (bytes ≡ to_le_bytes w32 word ++ rest) × IsSpellingOf parts rest
 IsSpellingOf (Plain plain ∷ parts) bytes =
     (rest : List ℕ) × (bytes ≡ plain ++ rest) × IsSpellingOf parts rest

@@ -56,7 +56,8 @@ load_word rd word =
 unfoldable pub register_upper : Names → List ℕ → Result (ℕ × ℕ) AsmKind
 register_upper names operands = do
   parts ← two_pieces operands
-  values ← pair_judgment (register parts.0) (number_in_range (pos 0) GREATEST_UPPER (number names parts.1))
+  values ← pair_judgment (register parts.0)
+      (number_in_range (pos 0) GREATEST_UPPER (number names parts.1))
   Ok (values.0, unsigned_abs values.1 * UPPER_UNIT)
 
 -- `rd, n(rs1)`, as rd, n and rs1
@@ -75,7 +76,8 @@ immediate names op piece =
 unfoldable pub registers_immediate : Names → ImmOp → List ℕ → Result (ℕ × ℕ × ℤ) AsmKind
 registers_immediate names op operands = do
   parts ← three_pieces operands
-  values ← pair_judgment (pair_judgment (register parts.0) (register parts.1)) (immediate names op parts.2)
+  values ← pair_judgment (pair_judgment (register parts.0) (register parts.1))
+      (immediate names op parts.2)
   Ok (values.0.0, values.0.1, values.1)
 
 -- `rd, rs1, rs2`

@@ -17,7 +17,7 @@ pub struct Layout<'a> {
     pub statements: Vec<PlacedStatement<'a>>,
     /// How many bytes the statements take.
     pub size: u32,
-    ghost counted: { size ≡ sum_by (λ placed. size_of placed.statement) statements.items },
+    ghost counted: { size ≡ sum_by (λ it. size_of it.statement) statements.items },
     ghost fits: { size ≤ IMAGE_ROOM },
     ghost sound: { ArePlacedSound statements.items } by { ArePlacedSound-prop statements.items },
 }

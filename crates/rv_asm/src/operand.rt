@@ -161,15 +161,15 @@ pub fn twelve_bits(symbols: &Symbols, piece: &[u8]) -> Judgment<i64>
     )
 }
 
-fn bracket_operand(symbols: &Symbols, front: &[u8], inside: &[u8]) -> Judgment<(i64, u8)>
-    ensures value { result ≡ bracket_operand (meanings_of symbols.now) front.now (Some inside.now) }
+fn bracket_operand(symbols: &Symbols, front: &[u8], rest: &[u8]) -> Judgment<(i64, u8)>
+    ensures value { result ≡ bracket_operand (meanings_of symbols.now) front.now (Some rest.now) }
     ensures small { IfOk result (λ it. IsTwelveBits it.0 × IsRegister it.1) }
 {
-    let (inner, rest) = cut_at(inside, b')');
-    match rest {
+    let (inner, end) = cut_at(rest, b')');
+    match end {
         None => Err(AsmKind::Operands),
-        Some(rest) => {
-            if !without_outer_blanks(rest).is_empty() {
+        Some(end) => {
+            if !without_outer_blanks(end).is_empty() {
                 return Err(AsmKind::Operands);
             }
             pair(
@@ -188,6 +188,6 @@ pub fn memory(symbols: &Symbols, piece: &[u8]) -> Judgment<(i64, u8)>
 {
     match cut_at(piece, b'(') {
         (_, None) => Err(AsmKind::Operands),
-        (front, Some(inside)) => bracket_operand(symbols, front, inside),
+        (front, Some(rest)) => bracket_operand(symbols, front, rest),
     }
 }

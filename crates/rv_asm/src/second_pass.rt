@@ -134,9 +134,9 @@ pub fn second_pass(alloc: Global, layout: &Layout<'_>) -> Result<Vec<u8>, AsmFau
     ensures size { IfOk result (λ out. vec_len out ≡ layout.now.size) }
 {
     let mut out = Vec::new(alloc);
-    for placed in &layout.statements {
-        if let Err(halt) = put_statement(&mut out, &layout.symbols, &placed.statement) {
-            return Err(halt.fault_of_line(placed.line));
+    for placed_statement in &layout.statements {
+        if let Err(halt) = put_statement(&mut out, &layout.symbols, &placed_statement.statement) {
+            return Err(halt.fault_of_line(placed_statement.line));
         }
     }
     Ok(out)

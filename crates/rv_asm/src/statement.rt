@@ -257,8 +257,8 @@ fn immediate_operation<'a>(op: ImmOp, symbols: &Symbols, operands: &[u8]) -> Jud
     Ok(Statement::Inst(Inst::OpImm { op, rd, rs1, imm }))
 }
 
-/// `add rd, rs1, rs2` and the other operations on two registers. Here, and where else no operand can
-/// be a name of a number, it is judged as with no names.
+/// `add rd, rs1, rs2` and the other operations on two registers. Here, and where else no operand
+/// can be a name of a number, it is judged as with no names.
 #[tactic(auto, unfolding(crate::specs::Statements::statements_of))]
 fn register_operation<'a>(op: RegOp, operands: &[u8]) -> Judgment<Statement<'a>>
     ensures value { list_of_one result ≡ statements_of (mnemonics.Op op) no_names operands.now }

@@ -11,8 +11,8 @@ use Rattle.rv_model.specs.declared.inst.Inst.TheVariants.{Lui, Jal, Branch, OpIm
 use Rattle.rv_model.specs.declared.inst.ImmOp.TheVariants.{Addi}
 use Rattle.rv_model.specs.declared.inst.BranchOp.{BranchOp}
 use Rattle.rv_model.specs.Word.{wrapping_sum}
-use Rattle.rv_model.specs.Words.{dec}
-use Rattle.rv_model.specs.Exec.{Access, Outcome, next_state, exec, effect_of, register_value, with_register, next_pc, offset_by, jump_outcome, is_taken}
+use Rattle.rv_model.specs.Words.{instruction_of}
+use Rattle.rv_model.specs.Exec.{Access, Outcome, next_state, step_outcome, effect_of, register_value, with_register, next_pc, offset_by, jump_outcome, is_taken}
 use Rattle.rv_inst.specs.Valid.{IsRegister}
 use Rattle.rv_asm.specs.declared.fault.AsmKind.{AsmKind}
 use Rattle.rv_asm.specs.declared.symbols.Symbol.TheVariants.{Label}
@@ -73,8 +73,8 @@ short_sum word false e short fits =
 
 -- ---- one step
 
-step_is : (A : Access (List ℕ)) (x m : List ℕ) (pc word : ℕ) (inst : Inst) → A.fetch m pc ≡ Ok word → dec word ≡ Some inst → exec A x pc m ≡ effect_of A inst x pc m
-unfolding exec
+step_is : (A : Access (List ℕ)) (x m : List ℕ) (pc word : ℕ) (inst : Inst) → A.fetch m pc ≡ Ok word → instruction_of word ≡ Some inst → step_outcome A x pc m ≡ effect_of A inst x pc m
+unfolding step_outcome
 step_is A x m pc word inst f d = rw (f, d) refl
 
 -- ---- `li` and `la`
@@ -147,7 +147,7 @@ reaches reach names label pc address make parts known e =
 pub jal_jumps : (A : Access (List ℕ)) (names : Names) (x m label : List ℕ) (pc rd address : ℕ) (parts : List Part)
     → pc < 2 ^ 32 → address < 2 ^ 32 → names label ≡ Some (Label address)
     → parts_of names pc (statements.Jal rd label) ≡ Ok parts → HasParts A m pc parts
-    → exec A x pc m ≡ jump_outcome pc address (with_register x rd (next_pc pc)) m
+    → step_outcome A x pc m ≡ jump_outcome pc address (with_register x rd (next_pc pc)) m
 unfolding parts_of effect_of
 jal_jumps A names x m label pc rd address parts low fits known e h =
     let these = reaches JUMP_REACH names label pc address (λ it. Jal rd it) parts known e in
@@ -161,7 +161,7 @@ taken_by false then_out else_out h = absurd cc
 pub branch_jumps : (A : Access (List ℕ)) (names : Names) (x m label : List ℕ) (pc rs1 rs2 address : ℕ) (op : BranchOp) (parts : List Part)
     → pc < 2 ^ 32 → address < 2 ^ 32 → names label ≡ Some (Label address)
     → parts_of names pc (statements.Branch op rs1 rs2 label) ≡ Ok parts → HasParts A m pc parts
-    → IsTrue (is_taken op (register_value x rs1) (register_value x rs2)) → exec A x pc m ≡ jump_outcome pc address x m
+    → IsTrue (is_taken op (register_value x rs1) (register_value x rs2)) → step_outcome A x pc m ≡ jump_outcome pc address x m
 unfolding parts_of effect_of
 branch_jumps A names x m label pc rs1 rs2 address op parts low fits known e h taken =
     let these = reaches BRANCH_REACH names label pc address (λ it. Branch op rs1 rs2 it) parts known e in

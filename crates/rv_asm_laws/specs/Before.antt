@@ -19,12 +19,11 @@ abbrev pub layout_behind_line : LayoutSoFar → Result LayoutSoFar AsmKind → L
 layout_behind_line layout (Ok next) = next
 layout_behind_line layout (Err kind) = layout
 
--- what is laid once lines are done, of which the first has the number behind this one: a line with
--- a fault lays nothing
+-- what is laid once lines are done, behind so many others: a line with a fault lays nothing
 unfoldable pub layout_of_lines : ℕ → LayoutSoFar → List (List ℕ) → LayoutSoFar
-layout_of_lines before layout [] = layout
-layout_of_lines before layout (line ∷ lines) = layout_of_lines (before + 1)
-    (layout_behind_line layout (layout_with_line (before + 1) layout line)) lines
+layout_of_lines line_count layout [] = layout
+layout_of_lines line_count layout (line ∷ lines) = layout_of_lines (line_count + 1)
+    (layout_behind_line layout (layout_with_line (line_count + 1) layout line)) lines
 
 -- what stands before a line of a text, which is counted from 0
 abbrev pub layout_before : List (List ℕ) → ℕ → LayoutSoFar

@@ -159,4 +159,5 @@ forms_of mnemonics.Zero count = a_number (pos 0) (pos IMAGE_ROOM) ∷ []
 -- the fault of a statement's operands
 abbrev pub statement_fault : Names → Mnemonic → List ℕ → Option AsmKind
 statement_fault names mnemonic operands =
-    let texts = operand_texts operands in operands_fault names (forms_of mnemonic (length texts)) texts
+    let texts = operand_texts operands in
+    operands_fault names (forms_of mnemonic (length texts)) texts

@@ -1,6 +1,6 @@
 -- What holds of the assembler, a law at a time.
 use Rattle.std.specs.Prelude.{◌≡◌, ◌<◌, ◌≤◌, ◌+◌, ◌*◌, ◌^◌, map, ℕ, List, length, Some, Ok, IsTrue, Err, ◌≢◌, codes, ◌++◌, ◌∷◌, [], true, false}
-use Rattle.rv_model.specs.Exec.{Access, next_state, with_register, register_value, exec, jump_outcome, is_taken, next_pc}
+use Rattle.rv_model.specs.Exec.{Access, next_state, with_register, register_value, step_outcome, jump_outcome, is_taken, next_pc}
 use Rattle.rv_model.specs.declared.inst.BranchOp.{BranchOp}
 use Rattle.rv_inst.specs.Valid.{IsRegister}
 use Rattle.rv_asm_laws.specs.Effects.{HasInstructions, HasParts, steps, pc_behind}
@@ -53,7 +53,7 @@ JumpsReach = (A : Access (List ℕ)) (names : Names) (x m label : List ℕ)
     (pc rd address : ℕ) (parts : List Part)
     → pc < 2 ^ 32 → address < 2 ^ 32 → names label ≡ Some (Label address)
     → parts_of names pc (statements.Jal rd label) ≡ Ok parts → HasParts A m pc parts
-    → exec A x pc m ≡ jump_outcome pc address (with_register x rd (next_pc pc)) m
+    → step_outcome A x pc m ≡ jump_outcome pc address (with_register x rd (next_pc pc)) m
 
 -- so does a branch that is taken
 abbrev pub BranchesReach : Type 0
@@ -61,7 +61,7 @@ BranchesReach = (A : Access (List ℕ)) (names : Names) (x m label : List ℕ)
     (pc rs1 rs2 address : ℕ) (op : BranchOp) (parts : List Part)
     → pc < 2 ^ 32 → address < 2 ^ 32 → names label ≡ Some (Label address)
     → parts_of names pc (statements.Branch op rs1 rs2 label) ≡ Ok parts → HasParts A m pc parts
-    → IsTrue (is_taken op (register_value x rs1) (register_value x rs2)) → exec A x pc m
+    → IsTrue (is_taken op (register_value x rs1) (register_value x rs2)) → step_outcome A x pc m
     ≡ jump_outcome pc address x m
 
 -- the address of a line is the start of the image and the sizes of all that is laid before it

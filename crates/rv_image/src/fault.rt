@@ -12,13 +12,13 @@ use thiserror::Error;
 #[derive(Clone, Copy, Debug, PartialEq, Eq, Error)]
 pub enum ImageFault {
     /// There are fewer bytes than the header has.
-    #[error("fewer than 16 bytes")]
+    #[error("fewer bytes than the header has")]
     Short,
     /// The bytes do not begin with `RKI1`.
     #[error("not RKI1")]
     Magic,
     /// Loaded and zero bytes together are more than `IMAGE_ROOM`.
-    #[error("more than 122,880 bytes of image")]
+    #[error("more bytes than an image has room for")]
     TooLarge,
     /// There are more or fewer loaded bytes than the header says.
     #[error("not as many bytes as the header says")]

@@ -13,9 +13,6 @@ use rv_model::{IMAGE_ROOM, NoMemory, PRIVATE_START, WORD_SIZE};
 use std::alloc::Global;
 use std::marker::Model;
 
-/// How many bytes an image may take up.
-const ROOM: usize = IMAGE_ROOM as usize;
-
 /// What a process is started from. Its loaded bytes stand from `PRIVATE_START` on, with bytes of
 /// value 0 behind them; together they are `IMAGE_ROOM` bytes at most. The process begins at the
 /// entry, a multiple of 4 at which a whole word of the loaded bytes lies (docs/IMAGE.md).
@@ -40,7 +37,7 @@ impl Model for Image {
 fn is_too_large(loaded_len: usize, zero_len: usize) -> bool
     ensures { result ≡ is_too_large loaded_len zero_len }
 {
-    loaded_len > ROOM || zero_len > ROOM - loaded_len
+    loaded_len > IMAGE_ROOM as usize || zero_len > IMAGE_ROOM as usize - loaded_len
 }
 
 /// Whether at this address a whole word of so many loaded bytes begins.

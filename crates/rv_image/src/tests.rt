@@ -1,9 +1,7 @@
 use super::*;
+use rv_model::PRIVATE_START;
 use std::alloc::{AllocError, Global};
 use std::test::Fail;
-
-/// Where images begin.
-const START: u32 = 0x0001_0000;
 
 /// `li a0, 42`; `li a7, 14`; `ecall`; `li a7, 13`; `ecall`.
 const WORDS: [u32; 5] = [
@@ -47,12 +45,12 @@ fn with_header(
 
 #[test]
 fn image(rt: HostRuntime) -> Result<(), Fail> {
-    let first = Image::of_parts(START, loaded_words(rt.alloc())?, 0)?;
+    let first = Image::of_parts(PRIVATE_START, loaded_words(rt.alloc())?, 0)?;
     assert_eq!(rt; write(rt.alloc(), &first)?.as_slice(), RKI1.as_slice());
     let second = first.copy(rt.alloc())?;
     let again = written_and_read(rt.alloc(), &first)?;
     for image in [read(rt.alloc(), &RKI1)?, second, again] {
-        assert_eq!(rt; image.entry(), 0x0001_0000);
+        assert_eq!(rt; image.entry(), PRIVATE_START);
         assert_eq!(rt; image.loaded(), &RKI1[16..]);
         assert_eq!(rt; image.zero(), 0);
     }
@@ -61,8 +59,8 @@ fn image(rt: HostRuntime) -> Result<(), Fail> {
 
 #[test]
 fn zero_bytes(rt: HostRuntime) -> Result<(), Fail> {
-    let first = Image::of_parts(START + 16, loaded_words(rt.alloc())?, 122_860)?;
-    let bytes = with_header(rt.alloc(), b"RKI1", START + 16, 20, 122_860)?;
+    let first = Image::of_parts(PRIVATE_START + 16, loaded_words(rt.alloc())?, 122_860)?;
+    let bytes = with_header(rt.alloc(), b"RKI1", PRIVATE_START + 16, 20, 122_860)?;
     assert_eq!(rt; write(rt.alloc(), &first)?.as_slice(), bytes.as_slice());
     let image = read(rt.alloc(), &bytes)?;
     assert_eq!(rt; (image.entry(), image.zero()), (0x0001_0010, 122_860));
@@ -91,9 +89,9 @@ fn faults(rt: HostRuntime) -> Result<(), Fail> {
         (b"RKI1", 0, 19, 0, ImageFault::Length),
         (b"RKI1", 0, 21, 0, ImageFault::Length),
         // alone
-        (b"RKI1", START - 4, 20, 0, ImageFault::Entry),
-        (b"RKI1", START + 2, 20, 0, ImageFault::Entry),
-        (b"RKI1", START + 20, 20, 4, ImageFault::Entry),
+        (b"RKI1", PRIVATE_START - 4, 20, 0, ImageFault::Entry),
+        (b"RKI1", PRIVATE_START + 2, 20, 0, ImageFault::Entry),
+        (b"RKI1", PRIVATE_START + 20, 20, 4, ImageFault::Entry),
         (b"RKI1", u32::MAX - 3, 20, 0, ImageFault::Entry),
     ] {
         let bytes = with_header(rt.alloc(), magic, entry, loaded_len, zero)?;
@@ -106,7 +104,7 @@ fn faults(rt: HostRuntime) -> Result<(), Fail> {
     for (entry, zero, fault) in [
         // before Entry
         (0, 122_861, ImageFault::TooLarge),
-        (START + 20, 0, ImageFault::Entry),
+        (PRIVATE_START + 20, 0, ImageFault::Entry),
     ] {
         let image = Image::of_parts(entry, loaded_words(rt.alloc())?, zero);
         assert_eq!(rt; image.err(), Some(fault));

@@ -4,7 +4,7 @@ use Rattle.std.specs.Int.{w32, cast_unsigned}
 use Rattle.std.proofs.lemmas.Int.{ints}
 use Rattle.std.proofs.lemmas.Bool.Decides.{nat_tests}
 use Rattle.rv_model.specs.declared.inst.Inst.{Inst}
-use Rattle.rv_model.specs.Words.{bits_of, opcode_of, funct3_of, funct7_of, rd_of, rs1_of, rs2_of, sign_extension, i_immediate, s_immediate, b_immediate, u_immediate, j_immediate, table, dec}
+use Rattle.rv_model.specs.Words.{bits_of, opcode_of, funct3_of, funct7_of, rd_of, rs1_of, rs2_of, sign_extension, i_immediate, s_immediate, b_immediate, u_immediate, j_immediate, table, instruction_of}
 use Rattle.rv_inst.specs.Encoding.{r_word, i_word, s_word, b_word, u_word, j_word, word_of}
 use Rattle.rv_inst.proofs.Rows.{rule}
 
@@ -38,14 +38,14 @@ r_row w k f g h m = grind (arith, nat_tests)
 whole_row : (w k r n : ℕ) → w < 2 ^ 32 → opcode_of w == k && (bits_of 7 25 w == r && true) ≡ true → r * 2 ^ 7 + k ≡ n → n ≡ w
 whole_row w k r n h m e = grind (arith, nat_tests)
 
-pub back : (w : ℕ) → w < 2 ^ 32 → (i : Inst) → dec w ≡ Some i → word_of i ≡ w
-unfolding dec table word_of
+pub back : (w : ℕ) → w < 2 ^ 32 → (i : Inst) → instruction_of w ≡ Some i → word_of i ≡ w
+unfolding instruction_of table word_of
 back w h = rule (λ i. word_of i ≡ w) w table (search (u_row, j_row, i_row, s_row, b_row, r_row, whole_row) depth 60)
 
 -- two words of the same instruction are one
-pub one_word : (v w : ℕ) (i : Inst) → v < 2 ^ 32 → w < 2 ^ 32 → dec v ≡ Some i → dec w ≡ Some i → v ≡ w
+pub one_word : (v w : ℕ) (i : Inst) → v < 2 ^ 32 → w < 2 ^ 32 → instruction_of v ≡ Some i → instruction_of w ≡ Some i → v ≡ w
 one_word v w i f g d e = let a = back v f i d in let b = back w g i e in cc
 
 -- `one_word`, with the word that is known first
-pub only : (inst : Inst) (word other : ℕ) → word < 2 ^ 32 → other < 2 ^ 32 → dec word ≡ Some inst → dec other ≡ Some inst → other ≡ word
+pub only : (inst : Inst) (word other : ℕ) → word < 2 ^ 32 → other < 2 ^ 32 → instruction_of word ≡ Some inst → instruction_of other ≡ Some inst → other ≡ word
 only inst word other h g d e = one_word other word inst g h e d

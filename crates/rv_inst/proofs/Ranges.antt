@@ -5,7 +5,7 @@ use Rattle.std.proofs.lemmas.Int.{ints}
 use Rattle.std.proofs.lemmas.Bool.Decides.{nat_tests}
 use Rattle.rv_model.specs.declared.inst.Inst.{Inst}
 use Rattle.rv_model.specs.declared.inst.Inst.TheVariants.{Fence}
-use Rattle.rv_model.specs.Words.{opcode_of, funct3_of, rd_of, rs1_of, rs2_of, i_immediate, s_immediate, b_immediate, u_immediate, j_immediate, table, dec}
+use Rattle.rv_model.specs.Words.{opcode_of, funct3_of, rd_of, rs1_of, rs2_of, i_immediate, s_immediate, b_immediate, u_immediate, j_immediate, table, instruction_of}
 use Rattle.rv_inst.specs.Valid.{IsUpper, IsTwelveBits, IsShiftAmount, IsBranchOffset, IsJumpOffset, IsValid}
 use Rattle.rv_inst.proofs.Rows.{rule}
 
@@ -39,9 +39,9 @@ shift_fits w = grind (arith, ints)
 fence_fits : (w : ℕ) → w < 2 ^ 32 → opcode_of w == 15 && (funct3_of w == 0 && true) ≡ true → IsValid (Fence w)
 fence_fits w h m = grind (arith, nat_tests)
 
-valid : (w : ℕ) → w < 2 ^ 32 → (i : Inst) → dec w ≡ Some i → IsValid i
-unfolding dec table
+valid : (w : ℕ) → w < 2 ^ 32 → (i : Inst) → instruction_of w ≡ Some i → IsValid i
+unfolding instruction_of table
 valid w h = rule IsValid w table (search (rd_fits, rs1_fits, rs2_fits, u_fits, i_fits, s_fits, b_fits, j_fits, shift_fits, fence_fits) depth 60)
 
-pub dec_valid : (w : ℕ) → w < 2 ^ 32 → IfSome (dec w) IsValid
-dec_valid w h = elim (dec w) as (λ d. dec w ≡ d → IfSome d IsValid) [ None ↦ λ e. tt | Some i ↦ λ e. valid w h i e ] refl
+pub instruction_of_valid : (w : ℕ) → w < 2 ^ 32 → IfSome (instruction_of w) IsValid
+instruction_of_valid w h = elim (instruction_of w) as (λ d. instruction_of w ≡ d → IfSome d IsValid) [ None ↦ λ e. tt | Some i ↦ λ e. valid w h i e ] refl

@@ -5,7 +5,7 @@ use Rattle.std.specs.List.{list_any, list_all, AllByRecursion}
 use Rattle.std.proofs.lemmas.List.Elements.{All-from_recursion, recursion_from_All}
 use Rattle.std.proofs.lemmas.Bool.{and_parts, and_right}
 use Rattle.std.proofs.lemmas.Bool.Decides.{nat_tests}
-use Rattle.rv_model.specs.Words.{bits_of, FixedField, DecodingRow, has_fixed_fields, table, dec}
+use Rattle.rv_model.specs.Words.{bits_of, FixedField, DecodingRow, has_fixed_fields, table, instruction_of}
 
 abbrev holds : ℕ → FixedField → Bool
 holds word field = bits_of field.low field.width word == field.value
@@ -89,14 +89,14 @@ not_found w (r ∷ rs) h =
       | false ↦ λ _. not_found w rs h.1
     ] refl
 
-pub dec-matched : (w : ℕ) → All (λ row. IsTrue (has_fixed_fields w row) → dec w ≡ Some (row.meaning w)) table
-unfolding dec table
-dec-matched w =
-    All-from_recursion (λ row. IsTrue (has_fixed_fields w row) → dec w ≡ Some (row.meaning w)) table
-    (each (λ row. IsTrue (has_fixed_fields w row) → dec w ≡ Some (row.meaning w)) table (λ s k m. ap (option_map (λ (row : DecodingRow). row.meaning w)) (found w table refl s k m)))
+pub instruction_of-matched : (w : ℕ) → All (λ row. IsTrue (has_fixed_fields w row) → instruction_of w ≡ Some (row.meaning w)) table
+unfolding instruction_of table
+instruction_of-matched w =
+    All-from_recursion (λ row. IsTrue (has_fixed_fields w row) → instruction_of w ≡ Some (row.meaning w)) table
+    (each (λ row. IsTrue (has_fixed_fields w row) → instruction_of w ≡ Some (row.meaning w)) table (λ s k m. ap (option_map (λ (row : DecodingRow). row.meaning w)) (found w table refl s k m)))
 
-pub dec-unmatched : (w : ℕ) → All (λ row. ¬ IsTrue (has_fixed_fields w row)) table → dec w ≡ None
-unfolding dec table
-dec-unmatched w h = ap (option_map (λ (row : DecodingRow). row.meaning w)) (not_found w table (recursion_from_All (λ row. ¬ IsTrue (has_fixed_fields w row)) table h))
+pub instruction_of-unmatched : (w : ℕ) → All (λ row. ¬ IsTrue (has_fixed_fields w row)) table → instruction_of w ≡ None
+unfolding instruction_of table
+instruction_of-unmatched w h = ap (option_map (λ (row : DecodingRow). row.meaning w)) (not_found w table (recursion_from_All (λ row. ¬ IsTrue (has_fixed_fields w row)) table h))
 
-pub ruleset decided = (dec-matched, dec-unmatched)
+pub ruleset decided = (instruction_of-matched, instruction_of-unmatched)

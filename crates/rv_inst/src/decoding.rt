@@ -1,6 +1,6 @@
 //! Words to instructions.
 ghost use Rattle.std.specs.Prelude.{◌≡◌, ◌⊎◌, pos, option_map, IfSome};
-ghost use Rattle.rv_model.specs.Words.{opcode_of, funct3_of, rd_of, rs1_of, rs2_of, i_immediate, s_immediate, b_immediate, dec};
+ghost use Rattle.rv_model.specs.Words.{opcode_of, funct3_of, rd_of, rs1_of, rs2_of, i_immediate, s_immediate, b_immediate, instruction_of};
 ghost use Rattle.rv_inst.specs.Valid.{IsValid};
 ghost use Rattle.rv_model.specs.declared.inst.Inst.TheVariants.{Branch, Load, Store, OpImm, Op};
 
@@ -19,9 +19,9 @@ use rv_model::{BranchOp, ImmOp, Inst, LoadOp, RegOp, StoreOp};
 /// `None` comes exactly for a word that matches no row of the table, as each word of another
 /// extension. What is decoded is valid. A fence is one whatever its other fields are, and ECALL and
 /// EBREAK are one word each.
-#[tactic(auto, unfolding(rv_model::specs::Words::dec, rv_model::specs::Words::table))]
+#[tactic(auto, unfolding(rv_model::specs::Words::instruction_of, rv_model::specs::Words::table))]
 pub fn decode(word: u32) -> Option<Inst>
-    ensures listed { result ≡ dec word }
+    ensures listed { result ≡ instruction_of word }
     ensures valid { IfSome result IsValid }
 {
     match opcode(word) {
@@ -50,10 +50,10 @@ pub fn decode(word: u32) -> Option<Inst>
 }
 
 /// The instruction of a word of opcode `JALR`.
-#[tactic(auto, unfolding(rv_model::specs::Words::dec, rv_model::specs::Words::table))]
+#[tactic(auto, unfolding(rv_model::specs::Words::instruction_of, rv_model::specs::Words::table))]
 fn jalr(word: u32) -> Option<Inst>
     requires { opcode_of word ≡ JALR }
-    ensures listed { result ≡ dec word }
+    ensures listed { result ≡ instruction_of word }
     ensures valid { IfSome result IsValid }
 {
     match funct3(word) {
@@ -69,7 +69,7 @@ fn jalr(word: u32) -> Option<Inst>
 /// The instruction of a word of opcode `BRANCH`.
 fn branch(word: u32) -> Option<Inst>
     requires { opcode_of word ≡ BRANCH }
-    ensures listed { result ≡ dec word }
+    ensures listed { result ≡ instruction_of word }
     ensures valid { IfSome result IsValid }
 {
     let (rs1, rs2, offset) = (rs1(word), rs2(word), b_immediate(word));
@@ -83,10 +83,10 @@ fn branch(word: u32) -> Option<Inst>
 }
 
 /// The condition of a branch.
-#[tactic(auto, unfolding(rv_model::specs::Words::dec, rv_model::specs::Words::table))]
+#[tactic(auto, unfolding(rv_model::specs::Words::instruction_of, rv_model::specs::Words::table))]
 fn branch_op(word: u32) -> Option<BranchOp>
     requires { opcode_of word ≡ BRANCH }
-    ensures { dec word
+    ensures { instruction_of word
         ≡ option_map (λ o. Branch o (rs1_of word) (rs2_of word) (b_immediate word)) result }
 {
     match funct3(word) {
@@ -103,7 +103,7 @@ fn branch_op(word: u32) -> Option<BranchOp>
 /// The instruction of a word of opcode `LOAD`.
 fn load(word: u32) -> Option<Inst>
     requires { opcode_of word ≡ LOAD }
-    ensures listed { result ≡ dec word }
+    ensures listed { result ≡ instruction_of word }
     ensures valid { IfSome result IsValid }
 {
     let (rd, rs1, imm) = (rd(word), rs1(word), i_immediate(word));
@@ -112,10 +112,10 @@ fn load(word: u32) -> Option<Inst>
 }
 
 /// What a load reads, and how it is extended.
-#[tactic(auto, unfolding(rv_model::specs::Words::dec, rv_model::specs::Words::table))]
+#[tactic(auto, unfolding(rv_model::specs::Words::instruction_of, rv_model::specs::Words::table))]
 fn load_op(word: u32) -> Option<LoadOp>
     requires { opcode_of word ≡ LOAD }
-    ensures { dec word
+    ensures { instruction_of word
         ≡ option_map (λ o. Load o (rd_of word) (rs1_of word) (i_immediate word)) result }
 {
     match funct3(word) {
@@ -131,7 +131,7 @@ fn load_op(word: u32) -> Option<LoadOp>
 /// The instruction of a word of opcode `STORE`.
 fn store(word: u32) -> Option<Inst>
     requires { opcode_of word ≡ STORE }
-    ensures listed { result ≡ dec word }
+    ensures listed { result ≡ instruction_of word }
     ensures valid { IfSome result IsValid }
 {
     let (rs1, rs2, imm) = (rs1(word), rs2(word), s_immediate(word));
@@ -140,10 +140,10 @@ fn store(word: u32) -> Option<Inst>
 }
 
 /// How much a store writes.
-#[tactic(auto, unfolding(rv_model::specs::Words::dec, rv_model::specs::Words::table))]
+#[tactic(auto, unfolding(rv_model::specs::Words::instruction_of, rv_model::specs::Words::table))]
 fn store_op(word: u32) -> Option<StoreOp>
     requires { opcode_of word ≡ STORE }
-    ensures { dec word
+    ensures { instruction_of word
         ≡ option_map (λ o. Store o (rs1_of word) (rs2_of word) (s_immediate word)) result }
 {
     match funct3(word) {
@@ -155,10 +155,10 @@ fn store_op(word: u32) -> Option<StoreOp>
 }
 
 /// The instruction of a word of opcode `OP_IMM`. A shift is the minor opcodes 001 and 101.
-#[tactic(auto, unfolding(rv_model::specs::Words::dec, rv_model::specs::Words::table))]
+#[tactic(auto, unfolding(rv_model::specs::Words::instruction_of, rv_model::specs::Words::table))]
 fn op_imm(word: u32) -> Option<Inst>
     requires { opcode_of word ≡ OP_IMM }
-    ensures listed { result ≡ dec word }
+    ensures listed { result ≡ instruction_of word }
     ensures valid { IfSome result IsValid }
 {
     let (rd, rs1, imm) = (rd(word), rs1(word), i_immediate(word));
@@ -178,7 +178,7 @@ fn op_imm(word: u32) -> Option<Inst>
 fn shift_imm(word: u32) -> Option<Inst>
     requires opcode { opcode_of word ≡ OP_IMM }
     requires minor { (funct3_of word ≡ 0b001) ⊎ (funct3_of word ≡ 0b101) }
-    ensures listed { result ≡ dec word }
+    ensures listed { result ≡ instruction_of word }
     ensures valid { IfSome result IsValid }
 {
     Some(Inst::OpImm {
@@ -190,11 +190,11 @@ fn shift_imm(word: u32) -> Option<Inst>
 }
 
 /// The direction of a shift, and what is shifted in.
-#[tactic(auto, unfolding(rv_model::specs::Words::dec, rv_model::specs::Words::table))]
+#[tactic(auto, unfolding(rv_model::specs::Words::instruction_of, rv_model::specs::Words::table))]
 fn shift_op(word: u32) -> Option<ImmOp>
     requires opcode { opcode_of word ≡ OP_IMM }
     requires minor { (funct3_of word ≡ 0b001) ⊎ (funct3_of word ≡ 0b101) }
-    ensures { dec word
+    ensures { instruction_of word
         ≡ option_map (λ o. OpImm o (rd_of word) (rs1_of word) (pos (rs2_of word))) result }
 {
     match (funct3(word), funct7(word)) {
@@ -208,7 +208,7 @@ fn shift_op(word: u32) -> Option<ImmOp>
 /// The instruction of a word of opcode `OP`.
 fn op(word: u32) -> Option<Inst>
     requires { opcode_of word ≡ OP }
-    ensures listed { result ≡ dec word }
+    ensures listed { result ≡ instruction_of word }
     ensures valid { IfSome result IsValid }
 {
     let (rd, rs1, rs2) = (rd(word), rs1(word), rs2(word));
@@ -217,10 +217,11 @@ fn op(word: u32) -> Option<Inst>
 }
 
 /// The operation on two registers.
-#[tactic(auto, unfolding(rv_model::specs::Words::dec, rv_model::specs::Words::table))]
+#[tactic(auto, unfolding(rv_model::specs::Words::instruction_of, rv_model::specs::Words::table))]
 fn reg_op(word: u32) -> Option<RegOp>
     requires { opcode_of word ≡ OP }
-    ensures { dec word ≡ option_map (λ o. Op o (rd_of word) (rs1_of word) (rs2_of word)) result }
+    ensures { instruction_of word
+        ≡ option_map (λ o. Op o (rd_of word) (rs1_of word) (rs2_of word)) result }
 {
     match (funct7(word), funct3(word)) {
         (0b000_0000, 0b000) => Some(RegOp::Add),
@@ -238,10 +239,10 @@ fn reg_op(word: u32) -> Option<RegOp>
 }
 
 /// The instruction of a word of opcode `MISC_MEM`.
-#[tactic(auto, unfolding(rv_model::specs::Words::dec, rv_model::specs::Words::table))]
+#[tactic(auto, unfolding(rv_model::specs::Words::instruction_of, rv_model::specs::Words::table))]
 fn fence(word: u32) -> Option<Inst>
     requires { opcode_of word ≡ MISC_MEM }
-    ensures listed { result ≡ dec word }
+    ensures listed { result ≡ instruction_of word }
     ensures valid { IfSome result IsValid }
 {
     match funct3(word) {
@@ -251,10 +252,10 @@ fn fence(word: u32) -> Option<Inst>
 }
 
 /// The instruction of a word of opcode `SYSTEM`. Two words alone have one.
-#[tactic(auto, unfolding(rv_model::specs::Words::dec, rv_model::specs::Words::table))]
+#[tactic(auto, unfolding(rv_model::specs::Words::instruction_of, rv_model::specs::Words::table))]
 fn system(word: u32) -> Option<Inst>
     requires { opcode_of word ≡ SYSTEM }
-    ensures listed { result ≡ dec word }
+    ensures listed { result ≡ instruction_of word }
     ensures valid { IfSome result IsValid }
 {
     match word {

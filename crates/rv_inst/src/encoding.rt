@@ -1,6 +1,6 @@
 //! Instructions to words.
 ghost use Rattle.std.specs.Prelude.{◌≡◌, ◌<◌, ◌^◌, ℕ, pos};
-ghost use Rattle.rv_model.specs.Words.{opcode_of, funct3_of, funct7_of, rd_of, rs1_of, rs2_of, i_immediate, s_immediate, b_immediate, dec};
+ghost use Rattle.rv_model.specs.Words.{opcode_of, funct3_of, funct7_of, rd_of, rs1_of, rs2_of, i_immediate, s_immediate, b_immediate, instruction_of};
 ghost use Rattle.rv_inst.specs.Valid.{IsTwelveBits, IsShiftAmount, IsImmediateOf, IsValid};
 ghost use Rattle.rv_model.specs.declared.inst.Inst.TheVariants.{Jalr, Branch, Load, Store, OpImm, Op};
 
@@ -16,8 +16,9 @@ use rv_model::{BranchOp, ImmOp, Inst, LoadOp, RegOp, Register, StoreOp};
 #[tactic(auto, using(crate::proofs::Joined::only))]
 pub fn encode(inst: &Inst) -> u32
     requires { IsValid inst.now }
-    ensures decoded { dec result ≡ Some inst.now }
-    ensures only { (word : ℕ) → word < 2 ^ 32 → dec word ≡ Some inst.now → word ≡ result }
+    ensures decoded { instruction_of result ≡ Some inst.now }
+    ensures only { (word : ℕ) → word < 2 ^ 32 → instruction_of word ≡ Some inst.now
+        → word ≡ result }
 {
     word_of(*inst)
 }
@@ -26,7 +27,7 @@ pub fn encode(inst: &Inst) -> u32
 #[tactic(auto, using(crate::proofs::Decoded::forms))]
 fn word_of(inst: Inst) -> u32
     requires { IsValid inst }
-    ensures { dec result ≡ Some inst }
+    ensures { instruction_of result ≡ Some inst }
 {
     match inst {
         Inst::Lui { rd, imm } => u_word(Opcode { bits: LUI }, Register { number: rd }, imm),
@@ -67,16 +68,16 @@ fn word_of(inst: Inst) -> u32
 #[tactic(auto, using(crate::proofs::Decoded::forms))]
 fn jalr(rd: Register, rs1: Register, imm: i32) -> u32
     requires { IsTwelveBits imm }
-    ensures { dec result ≡ Some (Jalr rd.number rs1.number imm) }
+    ensures { instruction_of result ≡ Some (Jalr rd.number rs1.number imm) }
 {
     i_word(Opcode { bits: JALR }, Funct3 { bits: 0b000 }, rd, rs1, imm)
 }
 
 /// The minor opcode of a branch.
-#[tactic(auto, unfolding(rv_model::specs::Words::dec, rv_model::specs::Words::table))]
+#[tactic(auto, unfolding(rv_model::specs::Words::instruction_of, rv_model::specs::Words::table))]
 fn branch_funct3(op: BranchOp) -> Funct3
     ensures { (word : ℕ) → opcode_of word ≡ BRANCH → funct3_of word ≡ result.bits
-        → dec word ≡ Some (Branch op (rs1_of word) (rs2_of word) (b_immediate word)) }
+        → instruction_of word ≡ Some (Branch op (rs1_of word) (rs2_of word) (b_immediate word)) }
 {
     match op {
         BranchOp::Beq => Funct3 { bits: 0b000 },
@@ -89,10 +90,10 @@ fn branch_funct3(op: BranchOp) -> Funct3
 }
 
 /// The minor opcode of a load.
-#[tactic(auto, unfolding(rv_model::specs::Words::dec, rv_model::specs::Words::table))]
+#[tactic(auto, unfolding(rv_model::specs::Words::instruction_of, rv_model::specs::Words::table))]
 fn load_funct3(op: LoadOp) -> Funct3
     ensures { (word : ℕ) → opcode_of word ≡ LOAD → funct3_of word ≡ result.bits
-        → dec word ≡ Some (Load op (rd_of word) (rs1_of word) (i_immediate word)) }
+        → instruction_of word ≡ Some (Load op (rd_of word) (rs1_of word) (i_immediate word)) }
 {
     match op {
         LoadOp::Lb => Funct3 { bits: 0b000 },
@@ -104,10 +105,10 @@ fn load_funct3(op: LoadOp) -> Funct3
 }
 
 /// The minor opcode of a store.
-#[tactic(auto, unfolding(rv_model::specs::Words::dec, rv_model::specs::Words::table))]
+#[tactic(auto, unfolding(rv_model::specs::Words::instruction_of, rv_model::specs::Words::table))]
 fn store_funct3(op: StoreOp) -> Funct3
     ensures { (word : ℕ) → opcode_of word ≡ STORE → funct3_of word ≡ result.bits
-        → dec word ≡ Some (Store op (rs1_of word) (rs2_of word) (s_immediate word)) }
+        → instruction_of word ≡ Some (Store op (rs1_of word) (rs2_of word) (s_immediate word)) }
 {
     match op {
         StoreOp::Sb => Funct3 { bits: 0b000 },
@@ -117,14 +118,14 @@ fn store_funct3(op: StoreOp) -> Funct3
 }
 
 /// The word of an operation on a register and an immediate.
-#[tactic(auto, unfolding(rv_model::specs::Words::dec, rv_model::specs::Words::table))]
+#[tactic(auto, unfolding(rv_model::specs::Words::instruction_of, rv_model::specs::Words::table))]
 fn op_imm(op: ImmOp, rd: Register, rs1: Register, imm: i32) -> u32
     requires { IsImmediateOf op imm }
-    ensures { dec result ≡ Some (OpImm op rd.number rs1.number imm) }
+    ensures { instruction_of result ≡ Some (OpImm op rd.number rs1.number imm) }
 {
     let opcode = Opcode { bits: OP_IMM };
-    let logical = Funct7 { bits: 0b000_0000 };
-    let arithmetic = Funct7 { bits: 0b010_0000 };
+    let logical_code = Funct7 { bits: 0b000_0000 };
+    let arithmetic_code = Funct7 { bits: 0b010_0000 };
     match op {
         ImmOp::Addi => i_word(opcode, Funct3 { bits: 0b000 }, rd, rs1, imm),
         ImmOp::Slti => i_word(opcode, Funct3 { bits: 0b010 }, rd, rs1, imm),
@@ -132,9 +133,9 @@ fn op_imm(op: ImmOp, rd: Register, rs1: Register, imm: i32) -> u32
         ImmOp::Xori => i_word(opcode, Funct3 { bits: 0b100 }, rd, rs1, imm),
         ImmOp::Ori => i_word(opcode, Funct3 { bits: 0b110 }, rd, rs1, imm),
         ImmOp::Andi => i_word(opcode, Funct3 { bits: 0b111 }, rd, rs1, imm),
-        ImmOp::Slli => shift_word(Funct3 { bits: 0b001 }, logical, rd, rs1, imm),
-        ImmOp::Srli => shift_word(Funct3 { bits: 0b101 }, logical, rd, rs1, imm),
-        ImmOp::Srai => shift_word(Funct3 { bits: 0b101 }, arithmetic, rd, rs1, imm),
+        ImmOp::Slli => shift_word(Funct3 { bits: 0b001 }, logical_code, rd, rs1, imm),
+        ImmOp::Srli => shift_word(Funct3 { bits: 0b101 }, logical_code, rd, rs1, imm),
+        ImmOp::Srai => shift_word(Funct3 { bits: 0b101 }, arithmetic_code, rd, rs1, imm),
     }
 }
 
@@ -157,18 +158,18 @@ fn shift_word(funct3: Funct3, funct7: Funct7, rd: Register, rs1: Register, amoun
 
 /// The word of an operation on two registers.
 fn op_registers(op: RegOp, rd: Register, rs1: Register, rs2: Register) -> u32
-    ensures { dec result ≡ Some (Op op rd.number rs1.number rs2.number) }
+    ensures { instruction_of result ≡ Some (Op op rd.number rs1.number rs2.number) }
 {
     let (funct3, funct7) = op_functs(op);
     r_word(Opcode { bits: OP }, funct3, funct7, rd, rs1, rs2)
 }
 
 /// The two minor opcodes of an operation on two registers.
-#[tactic(auto, unfolding(rv_model::specs::Words::dec, rv_model::specs::Words::table))]
+#[tactic(auto, unfolding(rv_model::specs::Words::instruction_of, rv_model::specs::Words::table))]
 fn op_functs(op: RegOp) -> (Funct3, Funct7)
     ensures { (word : ℕ) → opcode_of word ≡ OP → funct3_of word ≡ result.0.bits
         → funct7_of word ≡ result.1.bits
-        → dec word ≡ Some (Op op (rd_of word) (rs1_of word) (rs2_of word)) }
+        → instruction_of word ≡ Some (Op op (rd_of word) (rs1_of word) (rs2_of word)) }
 {
     match op {
         RegOp::Add => (Funct3 { bits: 0b000 }, Funct7 { bits: 0b000_0000 }),

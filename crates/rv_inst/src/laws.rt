@@ -1,6 +1,6 @@
 //! Laws of the table of instructions, each the contract of a function that does nothing.
 ghost use Rattle.std.specs.Prelude.{◌≡◌, ◌<◌, ◌≤◌, ◌^◌, ℕ, length, filter, All, IfSome, IsTrue};
-ghost use Rattle.rv_model.specs.Words.{has_fixed_fields, table, dec};
+ghost use Rattle.rv_model.specs.Words.{has_fixed_fields, table, instruction_of};
 ghost use Rattle.rv_inst.specs.Valid.{IsValid};
 ghost use Rattle.rv_model.specs.declared.inst.Inst.{Inst};
 
@@ -16,20 +16,20 @@ pub fn table_is_unambiguous()
 pub fn table_decides()
     ensures matched { (word : ℕ)
         → All (λ row. IsTrue (has_fixed_fields word row)
-        → dec word ≡ Some (row.meaning word)) table }
+        → instruction_of word ≡ Some (row.meaning word)) table }
     ensures unmatched { (word : ℕ) → All (λ row. ¬ IsTrue (has_fixed_fields word row)) table
-        → dec word ≡ None }
+        → instruction_of word ≡ None }
 {}
 
 /// Encoding is unambiguous: no two words are decoded to one instruction.
 #[tactic(auto, using(crate::proofs::Joined::one_word))]
 pub fn words_are_unique()
     ensures { (word other : ℕ) (inst : Inst) → word < 2 ^ 32 → other < 2 ^ 32
-        → dec word ≡ Some inst → dec other ≡ Some inst → word ≡ other }
+        → instruction_of word ≡ Some inst → instruction_of other ≡ Some inst → word ≡ other }
 {}
 
 /// What a word is decoded to is an instruction that a word can hold.
-#[tactic(auto, using(crate::proofs::Ranges::dec_valid))]
+#[tactic(auto, using(crate::proofs::Ranges::instruction_of_valid))]
 pub fn instructions_are_valid()
-    ensures { (word : ℕ) → word < 2 ^ 32 → IfSome (dec word) IsValid }
+    ensures { (word : ℕ) → word < 2 ^ 32 → IfSome (instruction_of word) IsValid }
 {}

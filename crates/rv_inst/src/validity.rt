@@ -10,11 +10,11 @@ use rv_model::{
 };
 
 /// Whether a word can hold the instruction: registers are below `REGISTER_COUNT`, the immediates of
-/// `Lui` and `Auipc` are multiples of 4,096, the offset of a jump is even and from -`JUMP_REACH` to
-/// less than `JUMP_REACH`, that of a branch the same with `BRANCH_REACH`, any other immediate is
-/// from `LEAST_IMMEDIATE` to `GREATEST_IMMEDIATE`, but from 0 to `GREATEST_SHIFT` in a shift, and a
-/// fence has the opcode and the minor opcode of one (RISC-V unprivileged specification, "Immediate
-/// Encoding Variants").
+/// `Lui` and `Auipc` are multiples of `UPPER_UNIT`, the offset of a jump is even and from
+/// -`JUMP_REACH` to less than `JUMP_REACH`, that of a branch the same with `BRANCH_REACH`, any other
+/// immediate is from `LEAST_IMMEDIATE` to `GREATEST_IMMEDIATE`, but from 0 to `GREATEST_SHIFT` in a
+/// shift, and a fence has the opcode and the minor opcode of one (RISC-V unprivileged specification,
+/// "Immediate Encoding Variants").
 pub fn is_valid(inst: &Inst) -> bool
     ensures { IsTrue result ↔ IsValid inst.now }
 {

@@ -17,8 +17,8 @@ use Rattle.rv_model.specs.declared.inst.ImmOp.{ImmOp}
 use Rattle.rv_model.specs.declared.inst.ImmOp.TheVariants.{Addi, Slti, Sltiu, Xori, Ori, Andi, Slli, Srli, Srai}
 use Rattle.rv_model.specs.declared.inst.RegOp.{RegOp}
 use Rattle.rv_model.specs.declared.inst.RegOp.TheVariants.{Add, Sll, Slt, Sltu, Xor, Srl, Or, And, Sub, Sra}
-use Rattle.rv_model.specs.Words.{dec}
-use Rattle.rv_model.specs.Word.{wrapping_sum, wrapping_difference, is_less_signed, one_if, left_shift, right_shift, signed_right_shift}
+use Rattle.rv_model.specs.Words.{instruction_of}
+use Rattle.rv_model.specs.Word.{wrapping_sum, wrapping_difference, is_less_signed, truth_bit, left_shift, right_shift, signed_right_shift}
 
 -- what a memory answers: the word at a pc, the `size` bytes at an address as a number, and the
 -- memory once the lowest `size` bytes of a number are stored at an address; or why it stops the
@@ -30,7 +30,7 @@ pub record Access (M : Type 0) : Type 0 where
 
 -- how many bytes an access can have
 abbrev pub IsAccessSize : ℕ → Type 0
-IsAccessSize size = (size ≡ 1) ⊎ (size ≡ 2) ⊎ (size ≡ 4)
+IsAccessSize size = (size ≡ 1) ⊎ (size ≡ 2) ⊎ (size ≡ WORD_SIZE)
 
 -- how an instruction ends: it is done, with these registers, this pc and this memory; it is a call
 -- of the kernel, with the same; or the process stops, and nothing has changed
@@ -55,7 +55,8 @@ register_value x r = if r == 0 then 0 else slice_index x r
 abbrev pub with_register : List ℕ → ℕ → ℕ → List ℕ
 with_register x rd value = if rd == 0 then x else slice_set x rd value
 
--- ---- operations: "Integer Computational Instructions", "Conditional Branches", "Load and Store Instructions"
+-- ---- operations: "Integer Computational Instructions", "Conditional Branches", "Load and Store
+-- Instructions"
 
 -- whether a branch is taken, from the values of rs1 and rs2
 abbrev pub is_taken : BranchOp → ℕ → ℕ → Bool
@@ -69,8 +70,8 @@ is_taken Bgeu a b = not (nat_lt a b)
 -- the result of an operation on a register and an immediate, which stands there as a word
 abbrev pub immediate_result : ImmOp → ℕ → ℕ → ℕ
 immediate_result Addi a imm = wrapping_sum a imm
-immediate_result Slti a imm = one_if (is_less_signed a imm)
-immediate_result Sltiu a imm = one_if (nat_lt a imm)
+immediate_result Slti a imm = truth_bit (is_less_signed a imm)
+immediate_result Sltiu a imm = truth_bit (nat_lt a imm)
 immediate_result Xori a imm = bit_xor a imm
 immediate_result Ori a imm = bit_or a imm
 immediate_result Andi a imm = bit_and a imm
@@ -82,8 +83,8 @@ immediate_result Srai a imm = signed_right_shift a imm
 abbrev pub register_result : RegOp → ℕ → ℕ → ℕ
 register_result Add a b = wrapping_sum a b
 register_result Sll a b = left_shift a b
-register_result Slt a b = one_if (is_less_signed a b)
-register_result Sltu a b = one_if (nat_lt a b)
+register_result Slt a b = truth_bit (is_less_signed a b)
+register_result Sltu a b = truth_bit (nat_lt a b)
 register_result Xor a b = bit_xor a b
 register_result Srl a b = right_shift a b
 register_result Or a b = bit_or a b
@@ -95,14 +96,14 @@ register_result Sra a b = signed_right_shift a b
 abbrev pub load_size : LoadOp → ℕ
 load_size Lb = 1
 load_size Lh = 2
-load_size Lw = 4
+load_size Lw = WORD_SIZE
 load_size Lbu = 1
 load_size Lhu = 2
 
 abbrev pub store_size : StoreOp → ℕ
 store_size Sb = 1
 store_size Sh = 2
-store_size Sw = 4
+store_size Sw = WORD_SIZE
 
 -- what a load writes to rd, of the number that stood in memory: LB and LH extend its sign
 abbrev pub loaded_number : LoadOp → ℕ → ℕ
@@ -144,7 +145,8 @@ effect_of A (Load op rd rs1 imm) x pc m = do
   n ← A.load m (offset_by (register_value x rs1) imm) (load_size op)
   next_state (with_register x rd (loaded_number op n)) (next_pc pc) m
 effect_of A (Store op rs1 rs2 imm) x pc m = do
-  stored_memory ← A.store m (offset_by (register_value x rs1) imm) (store_size op) (register_value x rs2 % 256 ^ store_size op)
+  stored_memory ← A.store m (offset_by (register_value x rs1) imm) (store_size op)
+      (register_value x rs2 % 256 ^ store_size op)
   next_state x (next_pc pc) stored_memory
 effect_of A (OpImm op rd rs1 imm) x pc m =
     next_state
@@ -159,8 +161,8 @@ effect_of A Ecall x pc m = call_state x (next_pc pc) m
 effect_of A Ebreak x pc m = stop_state (Break pc)
 
 -- one step: the word at `pc` is fetched, decoded, and done
-unfoldable pub exec : {M : Type 0} → Access M → List ℕ → ℕ → M → Outcome M
-exec A x pc m = do
+unfoldable pub step_outcome : {M : Type 0} → Access M → List ℕ → ℕ → M → Outcome M
+step_outcome A x pc m = do
   word ← A.fetch m pc
-  inst ← ok_or (dec word) (Illegal pc word)
+  inst ← ok_or (instruction_of word) (Illegal pc word)
   effect_of A inst x pc m

@@ -15,9 +15,9 @@ abbrev pub is_less_signed : ℕ → ℕ → Bool
 is_less_signed a b = int_lt (cast_signed w32 a) (cast_signed w32 b)
 
 -- 1 where the test holds, else 0
-abbrev pub one_if : Bool → ℕ
-one_if true = 1
-one_if false = 0
+abbrev pub truth_bit : Bool → ℕ
+truth_bit true = 1
+truth_bit false = 0
 
 -- the shifts: the amount is the low five bits of n
 abbrev pub left_shift : ℕ → ℕ → ℕ

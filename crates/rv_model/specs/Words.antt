@@ -209,5 +209,5 @@ table =
 
 -- the instruction that a word is: that of the row that it matches, of which there is at most one,
 -- and none where it matches no row
-unfoldable pub dec : ℕ → Option Inst
-dec word = option_map (λ row. row.meaning word) (find (has_fixed_fields word) table)
+unfoldable pub instruction_of : ℕ → Option Inst
+instruction_of word = option_map (λ row. row.meaning word) (find (has_fixed_fields word) table)

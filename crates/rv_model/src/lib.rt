@@ -19,7 +19,7 @@ pub use limits::{
     LEAST_IMMEDIATE, PRIVATE_END, PRIVATE_SIZE, PRIVATE_START, REGISTER_COUNT, SP, UPPER_UNIT,
     WORD_SIZE,
 };
-pub use little_endian::{number_in, put_number, word_in};
+pub use little_endian::{number_at, put_number, word_at};
 pub use memory::NoMemory;
 pub use register::Register;
 pub use stop::Stop;

@@ -7,7 +7,7 @@ use crate::AccessSize;
 
 /// The number in the bytes from `offset` on, of which there are `size`.
 #[tactic(auto, using(crate::proofs::Numbers::number_lemmas))]
-pub fn number_in(bytes: &[u8], offset: usize, size: AccessSize) -> u32
+pub fn number_at(bytes: &[u8], offset: usize, size: AccessSize) -> u32
     requires within { offset + size.bytes ≤ length bytes.now }
     ensures value { result ≡ number_at bytes.now offset size.bytes }
     ensures fits { result < 256 ^ size.bytes }
@@ -15,13 +15,13 @@ pub fn number_in(bytes: &[u8], offset: usize, size: AccessSize) -> u32
     match size.bytes {
         1 => u32::from(bytes[offset]),
         2 => u32::from(bytes[offset]) + u32::from(bytes[offset + 1]) * 0x100,
-        _ => word_in(bytes, offset),
+        _ => word_at(bytes, offset),
     }
 }
 
 /// The number in the four bytes from `offset` on.
 #[tactic(auto, using(crate::proofs::Numbers::number_lemmas))]
-pub fn word_in(bytes: &[u8], offset: usize) -> u32
+pub fn word_at(bytes: &[u8], offset: usize) -> u32
     requires { offset + WORD_SIZE ≤ length bytes.now }
     ensures { result ≡ number_at bytes.now offset WORD_SIZE }
 {

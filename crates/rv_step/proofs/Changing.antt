@@ -13,9 +13,9 @@ use Rattle.rv_model.specs.declared.limits.TheConstants.{PRIVATE_START, PRIVATE_S
 use Rattle.rv_model.specs.declared.stop.Stop.{Stop}
 use Rattle.rv_model.specs.declared.stop.Stop.TheVariants.{Illegal, Target, Misaligned, Unmapped}
 use Rattle.rv_model.specs.LittleEndian.{with_number_at}
-use Rattle.rv_model.specs.Exec.{◌>>=◌, IsAccessSize, exec, effect_of, jump_outcome, is_taken, register_value, next_pc, offset_by, store_size, next_state, stop_state}
+use Rattle.rv_model.specs.Exec.{◌>>=◌, IsAccessSize, step_outcome, effect_of, jump_outcome, is_taken, register_value, next_pc, offset_by, store_size, next_state, stop_state}
 use Rattle.rv_model.specs.Private.{private_access, private_size, is_private}
-use Rattle.rv_model.specs.Words.{dec}
+use Rattle.rv_model.specs.Words.{instruction_of}
 use Rattle.rv_step.specs.MemoryChange.{HasChangedAtMost, memory_left}
 use Rattle.rv_model.proofs.PrivateSize.{private_size_lem}
 
@@ -122,10 +122,10 @@ decoded_by None x bytes pc word len = stays bytes
 decoded_by (Some inst) x bytes pc word len = performed_changes inst x bytes pc len
 
 fetched_by : (fetched : Result ℕ Stop) (x bytes : List ℕ) (pc : ℕ) → length bytes ≡ private_size
-    → HasChangedAtMost 4 bytes (memory_left bytes (fetched >>= λ word. ok_or (dec word) (Illegal pc word) >>= λ inst. effect_of private_access inst x pc bytes))
+    → HasChangedAtMost 4 bytes (memory_left bytes (fetched >>= λ word. ok_or (instruction_of word) (Illegal pc word) >>= λ inst. effect_of private_access inst x pc bytes))
 fetched_by (Err cause) x bytes pc len = stays bytes
-fetched_by (Ok word) x bytes pc len = decoded_by (dec word) x bytes pc word len
+fetched_by (Ok word) x bytes pc len = decoded_by (instruction_of word) x bytes pc word len
 
-pub exec_changes : (x bytes : List ℕ) (pc : ℕ) → length bytes ≡ private_size → HasChangedAtMost 4 bytes (memory_left bytes (exec private_access x pc bytes))
-unfolding exec
-exec_changes x bytes pc len = fetched_by (private_access.fetch bytes pc) x bytes pc len
+pub step_outcome_changes : (x bytes : List ℕ) (pc : ℕ) → length bytes ≡ private_size → HasChangedAtMost 4 bytes (memory_left bytes (step_outcome private_access x pc bytes))
+unfolding step_outcome
+step_outcome_changes x bytes pc len = fetched_by (private_access.fetch bytes pc) x bytes pc len

@@ -32,7 +32,7 @@ pub(crate) fn immediate_result(op: ImmOp, a: u32, imm: u32) -> u32
         ImmOp::Andi => a & imm,
         ImmOp::Slli => a.wrapping_shl(imm),
         ImmOp::Srli => a.wrapping_shr(imm),
-        ImmOp::Srai => shifted_right_signed(a, imm),
+        ImmOp::Srai => signed_right_shift(a, imm),
     }
 }
 
@@ -50,11 +50,11 @@ pub(crate) fn register_result(op: RegOp, a: u32, b: u32) -> u32
         RegOp::Or => a | b,
         RegOp::And => a & b,
         RegOp::Sub => a.wrapping_sub(b),
-        RegOp::Sra => shifted_right_signed(a, b),
+        RegOp::Sra => signed_right_shift(a, b),
     }
 }
 
-fn shifted_right_signed(a: u32, amount: u32) -> u32
+fn signed_right_shift(a: u32, amount: u32) -> u32
     ensures { result ≡ signed_right_shift a amount }
 {
     (a.cast_signed() >> (amount % 32)).cast_unsigned()

@@ -31,10 +31,7 @@ pub(crate) fn execute<M: Memory>(
     match inst {
         Inst::Lui { rd, imm } => write(register(rd), imm, registers, pc),
         Inst::Auipc { rd, imm } => write(register(rd), pc.wrapping_add(imm), registers, pc),
-        Inst::Jal { rd, offset } => {
-            let target = pc.wrapping_add_signed(offset);
-            jump(register(rd), target, registers, pc)
-        }
+        Inst::Jal { rd, offset } => jump_by(register(rd), offset, registers, pc),
         Inst::Jalr { rd, rs1, imm } => {
             let sum = registers.get(register(rs1)).wrapping_add_signed(imm);
             jump(register(rd), sum / 2 * 2, registers, pc)
@@ -110,6 +107,22 @@ fn jump(rd: Register, target: u32, registers: &mut Registers, pc: &mut u32) -> E
     Event::Advance
 }
 
+/// Jumps to the address at `offset` from `pc`, as `jump` does.
+#[inline(always)]
+fn jump_by(rd: Register, offset: i32, registers: &mut Registers, pc: &mut u32) -> Event
+    ensures event { result
+        ≡ (if offset_by pc.old offset % WORD_SIZE == 0 then Event.Advance
+        else Event.Stopped (Stop.Target pc.old)) }
+    ensures registers { registers.new.x
+        ≡ (if offset_by pc.old offset % WORD_SIZE == 0
+        then with_register registers.old.x rd.number (next_pc pc.old) else registers.old.x) }
+    ensures pc { pc.new
+        ≡ (if offset_by pc.old offset % WORD_SIZE == 0 then offset_by pc.old offset else pc.old) }
+{
+    let target = pc.wrapping_add_signed(offset);
+    jump(rd, target, registers, pc)
+}
+
 /// Does a branch.
 #[inline(always)]
 fn branch(
@@ -134,8 +147,7 @@ fn branch(
         else next_pc pc.old) }
 {
     if is_taken(op, registers.get(rs1), registers.get(rs2)) {
-        let target = pc.wrapping_add_signed(offset);
-        jump(Register::zero(), target, registers, pc)
+        jump_by(Register::zero(), offset, registers, pc)
     } else {
         advance(Event::Advance, pc)
     }
@@ -198,12 +210,12 @@ fn load<M: Memory>(
     ensures pc_stays { OnStopped result (pc.new ≡ pc.old) }
 {
     let address = registers.get(rs1).wrapping_add_signed(imm);
-    let loaded = match op {
+    let load_answer = match op {
         LoadOp::Lb | LoadOp::Lbu => memory.load(address, AccessSize::byte()),
         LoadOp::Lh | LoadOp::Lhu => memory.load(address, AccessSize::half()),
         LoadOp::Lw => memory.load(address, AccessSize::word()),
     };
-    match loaded {
+    match load_answer {
         Ok(n) => write(rd, loaded_number(op, n), registers, pc),
         Err(cause) => Event::Stopped(cause),
     }
@@ -229,12 +241,12 @@ fn store<M: Memory>(
 {
     let address = registers.get(rs1).wrapping_add_signed(imm);
     let value = registers.get(rs2);
-    let stored = match op {
+    let store_answer = match op {
         StoreOp::Sb => memory.store(address, AccessSize::byte(), value % 0x100),
         StoreOp::Sh => memory.store(address, AccessSize::half(), value % 0x1_0000),
         StoreOp::Sw => memory.store(address, AccessSize::word(), value),
     };
-    match stored {
+    match store_answer {
         Ok(()) => advance(Event::Advance, pc),
         Err(cause) => Event::Stopped(cause),
     }

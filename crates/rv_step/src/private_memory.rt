@@ -4,7 +4,7 @@ ghost use Rattle.rv_model.specs.Private.{private_size, is_private, checked_acces
 
 use crate::Memory;
 use rv_model::{
-    AccessSize, NoMemory, PRIVATE_SIZE, PRIVATE_START, Stop, number_in, put_number, word_in,
+    AccessSize, NoMemory, PRIVATE_SIZE, PRIVATE_START, Stop, number_at, put_number, word_at,
 };
 use std::alloc::Global;
 use std::marker::Model;
@@ -114,14 +114,14 @@ impl Memory for PrivateMemory {
 
     fn fetch(&self, pc: u32) -> Result<u32, Stop> {
         match offset_of(pc, AccessSize::word()) {
-            Some(offset) => Ok(word_in(self.bytes.as_slice(), offset)),
+            Some(offset) => Ok(word_at(self.bytes.as_slice(), offset)),
             None => Err(Stop::Fetch(pc)),
         }
     }
 
     fn load(&self, address: u32, size: AccessSize) -> Result<u32, Stop> {
         let offset = place(address, size)?;
-        Ok(number_in(self.bytes.as_slice(), offset, size))
+        Ok(number_at(self.bytes.as_slice(), offset, size))
     }
 
     fn store(&mut self, address: u32, size: AccessSize, value: u32) -> Result<(), Stop> {

@@ -1,5 +1,5 @@
 ghost use Rattle.std.specs.Prelude.{◌≡◌};
-ghost use Rattle.rv_model.specs.Exec.{exec};
+ghost use Rattle.rv_model.specs.Exec.{step_outcome};
 ghost use Rattle.rv_step.specs.EventOutcome.{outcome_of_event, OnStopped};
 
 use crate::execute::execute;
@@ -13,10 +13,10 @@ use rv_model::Stop;
 /// isn't a multiple of 4 (`Target`, with the jump's own pc); the memory refuses the load or the
 /// store; the instruction is EBREAK (`Break`). Otherwise the instruction is done, and the pc is its
 /// target or the next instruction. An ECALL changes nothing but the pc.
-#[tactic(auto, unfolding(rv_model::specs::Exec::exec))]
+#[tactic(auto, unfolding(rv_model::specs::Exec::step_outcome))]
 pub fn step<M: Memory>(registers: &mut Registers, pc: &mut u32, memory: &mut M) -> Event
     ensures done { outcome_of_event result registers.new.x pc.new (M.holds memory.new)
-        ≡ exec M.access registers.old.x pc.old (M.holds memory.old) }
+        ≡ step_outcome M.access registers.old.x pc.old (M.holds memory.old) }
     ensures registers_stay { OnStopped result (registers.new.x ≡ registers.old.x) }
     ensures pc_stays { OnStopped result (pc.new ≡ pc.old) }
     ensures memory_stays { OnStopped result (M.holds memory.new ≡ M.holds memory.old) }

@@ -9,11 +9,9 @@ use Rattle.std.proofs.lemmas.List.{get_or-map, length-map}
 use Rattle.ce_model.specs.declared.topology.BlockId.{BlockId}
 use Rattle.ce_model.specs.Blocks.{Block, is_lower, with_id}
 use Rattle.ce_model.specs.Rising.{IsRising}
+use Rattle.ce_model.proofs.BlockOrder.{precedes-trans}
 use Rattle.xm_block.specs.Stores.{is_block_before, ids_of, with_block}
 use Rattle.xm_block.proofs.Rises.{AllPairs-insert}
-
-pub precedes-trans : (a b c : BlockId) → is_lower a b ≡ true → is_lower b c ≡ true → is_lower a c ≡ true
-precedes-trans a b c h k = grind (arith, nat_tests)
 
 -- of two names one is before the other, or they are the same
 pub precedes-other : (a b : BlockId) → is_lower a b ≡ false → (b ≡ a → ⊥) → is_lower b a ≡ true

@@ -3,7 +3,7 @@ ghost use Rattle.rv_model.specs.LittleEndian.{number_at, with_number_at};
 ghost use Rattle.ce_model.specs.Limits.{block_room};
 
 use ce_model::{BLOCK_ROOM, BlockId, NoMemory};
-use rv_model::{AccessSize, number_in, put_number};
+use rv_model::{AccessSize, number_at, put_number};
 use std::alloc::Global;
 use std::marker::Model;
 
@@ -98,7 +98,7 @@ impl Block {
         ensures value { result ≡ number_at self.now.bytes offset size.bytes }
         ensures fits { result < 256 ^ size.bytes }
     {
-        number_in(self.bytes(), offset as usize, size)
+        number_at(self.bytes(), offset as usize, size)
     }
 
     /// Stores the lowest bytes of `value` from `offset` on, `size` of them, little-endian. They are

@@ -10,4 +10,5 @@ use Rattle.xm_owner.specs.contracts.held_blocks.HeldBlocks.{the_row}
 abbrev pub LendsBlock : MutBor MappingTable → ℕ → ℕ → Option (MutBor Block) → Fml
 LendsBlock table pid window loan =
     LendsIf the_row block_contracts.the_row table loan
-    (λ block. record table.now { mappings = with_block_at pid window block table.now.mappings }) table.now
+    (λ block. record table.now { mappings = with_block_at pid window block table.now.mappings })
+    table.now

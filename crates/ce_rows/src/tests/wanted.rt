@@ -47,8 +47,8 @@ fn first_cube_wants<N: Homed>(count: usize, reply: &Reply<N>) -> bool {
         Reply::Granted { grant, boxes } => {
             count == 0 && boxes.len() == 2 && is_grant(grant, 0, 1, 1)
         }
-        Reply::Peeked(peeked) => {
-            count == 1 && peeked.free == 2 && peeked.grants.as_slice().len() == 1
+        Reply::Peeked(peek_result) => {
+            count == 1 && peek_result.free == 2 && peek_result.grants.as_slice().len() == 1
         }
         _ => false,
     }
@@ -83,8 +83,8 @@ fn next_owner_wants<N: Homed>(count: usize, reply: &Reply<N>) -> bool {
 // The same for the row of the replies.
 fn replies_want<N: Homed>(count: usize, reply: &Reply<N>) -> bool {
     match reply {
-        Reply::Peeked(peeked) => {
-            count == 0 && peeked.free == 1 && peeked.grants.as_slice().is_empty()
+        Reply::Peeked(peek_result) => {
+            count == 0 && peek_result.free == 1 && peek_result.grants.as_slice().is_empty()
         }
         Reply::Granted { grant, boxes } => {
             count == 1 && boxes.len() == 1 && is_grant(grant, 0, 0, 0)

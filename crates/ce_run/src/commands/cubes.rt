@@ -20,7 +20,7 @@ use std::alloc::Global;
 use xm_block::Block;
 
 /// A user who holds no cube asks for one. `NoMemory` may come at any time.
-pub(crate) fn get_cube(
+pub(crate) fn getcube(
     alloc: Global,
     machine: &mut Machine<NodeBox>,
     images: &[Image],
@@ -55,13 +55,13 @@ pub(crate) fn peek(
         → HasDone serial machine.old machine.new user Peek answer facts) }
 {
     match ask(alloc, machine, user, Call::Peek)? {
-        Reply::Peeked(found) => Ok(Answer::Peeked(found)),
+        Reply::Peeked(peek_result) => Ok(Answer::Peeked(peek_result)),
         _ => unreachable!(),
     }
 }
 
 /// A user gives the cube back. `NoMemory` may come at any time.
-pub(crate) fn free_cube(
+pub(crate) fn freecube(
     alloc: Global,
     machine: &mut Machine<NodeBox>,
     crew: SerialCrew,
@@ -82,17 +82,17 @@ pub(crate) fn free_cube(
 
 /// The boxes and the host of a crew that is done, with all blocks at home.
 fn come_home(crew: SerialCrew, drained_blocks: Vec<Block>) -> (Vec<NodeBox>, Host)
-    requires { HasAllBlocks (cube_grant crew.grant) crew.nodes.items crew.host
+    requires { HasAllBlocks (cube_grant crew.grant) crew.boxes.items crew.host
         drained_blocks.items }
     ensures { AreAllHome (cube_grant crew.grant) result.0.items result.1 }
 {
     let SerialCrew {
-        mut nodes,
+        mut boxes,
         mut host,
         ..
     } = crew;
-    rehome(nodes.as_mut_slice(), &mut host, drained_blocks);
-    (nodes, host)
+    rehome(boxes.as_mut_slice(), &mut host, drained_blocks);
+    (boxes, host)
 }
 
 /// The blocks of all messages that wait in the cube of a user.

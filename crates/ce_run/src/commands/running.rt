@@ -55,7 +55,7 @@ pub(crate) fn run(
 /// The command `recv` behind the dispatches that it allows: takes the first message for the host,
 /// with a round before each further look for one, until no node has work. `NoMemory` may come at
 /// any time.
-pub(crate) fn receive(
+pub(crate) fn recv(
     alloc: Global,
     machine: &mut Machine<NodeBox>,
     images: &[Image],
@@ -123,7 +123,7 @@ fn take_message(
     crew: &mut SerialCrew,
 ) -> Result<Option<(Place, Bytes)>, NoMemory>
     requires { HasCrew machine.old (serial_facts crew.old) }
-    ensures { IfOk result (λ found. MatchOption found
+    ensures { IfOk result (λ next_message. MatchOption next_message
         (HasTakenNone serial machine.old machine.new
         (serial_facts crew.old) (serial_facts crew.new))
         (λ message. HasTaken serial machine.old machine.new

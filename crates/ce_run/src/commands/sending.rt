@@ -5,11 +5,11 @@ ghost use Rattle.ce_host.specs.declared.command.Command.TheVariants.{Kill, Send,
 ghost use Rattle.ce_cube.specs.Crews.{serial_facts};
 ghost use Rattle.rk_mail.specs.Talk.{call_of_say};
 ghost use Rattle.rk_mail.specs.declared.talk.Hearing.TheVariants.{Posted};
-ghost use Rattle.ce_record.specs.Asked.{hearing_reply};
+ghost use Rattle.ce_record.specs.Requests.{hearing_reply};
 ghost use Rattle.ce_machine.specs.declared.call.Call.TheVariants as calls;
 ghost use Rattle.ce_script.specs.Rounds.{serial};
 ghost use Rattle.ce_run.specs.Asking.{IsHostCall, IsStartOrEnd};
-ghost use Rattle.ce_run.specs.UserStates.{HasCrew, HasDone, HasToldHost, own_crew};
+ghost use Rattle.ce_run.specs.UserStates.{HasCrew, HasDone, HasToldHost, cube_crew};
 
 use crate::asking::ask_in_cube;
 use ce_cube::SerialCrew;
@@ -21,7 +21,7 @@ use rk_node::NodeBox;
 use std::alloc::Global;
 
 /// Starts an image as the process of a place. `NoMemory` may come at any time.
-pub(crate) fn start(
+pub(crate) fn spawn(
     alloc: Global,
     machine: &mut Machine<NodeBox>,
     crew: &mut SerialCrew,
@@ -31,16 +31,16 @@ pub(crate) fn start(
     requires crew { HasCrew machine.old (serial_facts crew.old) }
     requires image { image < length machine.old.parts.images }
     ensures { IfOk result (λ answer. HasDone serial machine.old machine.new crew.old.grant.user
-        (Spawn image to) answer (own_crew (serial_facts crew.new))) }
+        (Spawn image to) answer (cube_crew (serial_facts crew.new))) }
 {
     if !has_place(crew, to) {
         return Ok(Answer::NoPlace);
     }
-    tell(alloc, machine, crew, Say::Spawn { pid: 0, image, to })
+    give_order(alloc, machine, crew, Say::Spawn { pid: 0, image, to })
 }
 
 /// Ends the process of a place. `NoMemory` may come at any time.
-pub(crate) fn end(
+pub(crate) fn kill(
     alloc: Global,
     machine: &mut Machine<NodeBox>,
     crew: &mut SerialCrew,
@@ -48,12 +48,12 @@ pub(crate) fn end(
 ) -> Result<Answer, NoMemory>
     requires { HasCrew machine.old (serial_facts crew.old) }
     ensures { IfOk result (λ answer. HasDone serial machine.old machine.new crew.old.grant.user
-        (Kill to) answer (own_crew (serial_facts crew.new))) }
+        (Kill to) answer (cube_crew (serial_facts crew.new))) }
 {
     if !has_place(crew, to) {
         return Ok(Answer::NoPlace);
     }
-    tell(alloc, machine, crew, Say::Kill { pid: 0, to })
+    give_order(alloc, machine, crew, Say::Kill { pid: 0, to })
 }
 
 /// Sends bytes to the process of a place. `NoMemory` may come at any time.
@@ -66,7 +66,7 @@ pub(crate) fn send(
 ) -> Result<Answer, NoMemory>
     requires { HasCrew machine.old (serial_facts crew.old) }
     ensures { IfOk result (λ answer. HasDone serial machine.old machine.new crew.old.grant.user
-        (Send to bytes.now) answer (own_crew (serial_facts crew.new))) }
+        (Send to bytes.now) answer (cube_crew (serial_facts crew.new))) }
 {
     if !has_place(crew, to) {
         return Ok(Answer::NoPlace);
@@ -98,14 +98,14 @@ fn batch_of(hearing: Hearing) -> Batch
 /// Whether the place is one of the crew's cube.
 #[tactic(auto, using(ce_model::specs::Limits::process_count_lem))]
 pub(crate) fn has_place(crew: &SerialCrew, to: Place) -> bool
-    requires { length crew.now.nodes.items ≡ 2 ^ crew.now.grant.dim }
+    requires { length crew.now.boxes.items ≡ 2 ^ crew.now.grant.dim }
     ensures { result ≡ is_place crew.now.grant.dim to }
 {
-    (to.node as usize) < crew.nodes.len() && to.pid < PROCESS_COUNT
+    (to.node as usize) < crew.boxes.len() && to.pid < PROCESS_COUNT
 }
 
 /// What the start or the end of a process is answered.
-fn tell(
+fn give_order(
     alloc: Global,
     machine: &mut Machine<NodeBox>,
     crew: &mut SerialCrew,

@@ -36,7 +36,7 @@ pub enum WordKind {
 /// The body of the image whose line stands before what is left, and what is left behind its `end`.
 pub fn body_in<'a>(rest: Rest<'a>) -> Option<(Body<'a>, Rest<'a>)>
     ensures { MatchOption result (found_body (lines_left rest.entry) ≡ None)
-        (λ found. IsBodyIn rest.entry found.0 found.1) }
+        (λ body_and_rest. IsBodyIn rest.entry body_and_rest.0 body_and_rest.1) }
 {
     let all = rest.text?;
     let mut tail = rest;

@@ -60,11 +60,11 @@ impl<'a> WordedLine<'a> {
         })
     }
 
-    /// The word at this place behind the first; nothing where there is none.
-    pub fn operand(&self, place: usize) -> &'a [u8]
-        ensures { result.now ≡ operand place (statement_of_line self.now) }
+    /// The word with this number behind the first; nothing where there is none.
+    pub fn operand(&self, index: usize) -> &'a [u8]
+        ensures { result.now ≡ operand index (statement_of_line self.now) }
     {
-        match self.words.get(place) {
+        match self.words.get(index) {
             Some(word) => *word,
             None => &[],
         }

@@ -15,40 +15,40 @@ use crate::grammar::Verb;
 use crate::reader::index::NameIndex;
 use crate::reader::line::WordedLine;
 use crate::script::ScriptKind;
-use crate::spelling::{data_in, is_name, number_to};
+use crate::spelling::{bounded_number, data_in, is_name};
 use ce_host::Command;
 use ce_model::{Bytes, GREATEST_COUNT, GREATEST_DIMENSION, Place};
 use std::alloc::Global;
 
-/// The number at a place, at most this.
+/// The number that the operand with this number writes, at most this.
 #[tactic(auto, using(crate::proofs::Numbers::number_there, crate::proofs::Numbers::number_missing))]
-pub fn number(line: &WordedLine, place: usize, greatest: u32) -> Result<u32, ScriptKind>
+pub fn number(line: &WordedLine, index: usize, greatest: u32) -> Result<u32, ScriptKind>
     ensures { HasJudged result
-        (kind_where (is_none (bounded_number greatest (operand place (statement_of_line line.now))))
+        (kind_where (is_none (bounded_number greatest (operand index (statement_of_line line.now))))
         BadNumber)
-        (Some (operand_number place (statement_of_line line.now))) }
+        (Some (operand_number index (statement_of_line line.now))) }
 {
-    match number_to(line.operand(place), greatest) {
+    match bounded_number(line.operand(index), greatest) {
         Some(number) => Ok(number),
         None => Err(ScriptKind::BadNumber),
     }
 }
 
-/// The node and the process id at a place and behind it.
-fn place(line: &WordedLine, place: usize) -> Result<Place, ScriptKind>
-    requires { place < 2 ^ 32 }
+/// The node and the process id that two operands write, the first of them this one.
+fn place(line: &WordedLine, index: usize) -> Result<Place, ScriptKind>
+    requires { index < 2 ^ 32 }
     ensures { HasJudged result (first_some
         (kind_where (is_none
-        (bounded_number greatest_number (operand place (statement_of_line line.now))))
+        (bounded_number greatest_number (operand index (statement_of_line line.now))))
         BadNumber
         ∷ kind_where
         (is_none
-        (bounded_number greatest_number (operand (place + 1) (statement_of_line line.now))))
+        (bounded_number greatest_number (operand (index + 1) (statement_of_line line.now))))
         BadNumber ∷ []))
-        (Some (operand_place place (statement_of_line line.now))) }
+        (Some (operand_place index (statement_of_line line.now))) }
 {
-    let node = number(line, place, u32::MAX)?;
-    let pid = number(line, place + 1, u32::MAX)?;
+    let node = number(line, index, u32::MAX)?;
+    let pid = number(line, index + 1, u32::MAX)?;
     Ok(Place { node, pid })
 }
 
@@ -68,12 +68,12 @@ fn old_image(images: &NameIndex, word: &[u8]) -> Result<u32, ScriptKind>
 }
 
 /// The bytes of a message.
-fn data(alloc: Global, line: &WordedLine, place: usize) -> Result<Bytes, ScriptKind>
+fn data(alloc: Global, line: &WordedLine, index: usize) -> Result<Bytes, ScriptKind>
     ensures { HasJudged result
-        (kind_where (is_none (data_in (operand place (statement_of_line line.now)))) BadHex)
-        (data_in (operand place (statement_of_line line.now))) }
+        (kind_where (is_none (data_in (operand index (statement_of_line line.now)))) BadHex)
+        (data_in (operand index (statement_of_line line.now))) }
 {
-    match data_in(alloc, line.operand(place))? {
+    match data_in(alloc, line.operand(index))? {
         Some(bytes) => Ok(bytes),
         None => Err(ScriptKind::BadHex),
     }

@@ -44,7 +44,7 @@ impl<'a> Rest<'a> {
     /// The first line, and the lines behind it.
     pub fn first_line(self) -> Option<(&'a [u8], Rest<'a>)>
         ensures { MatchOption result (rest_text self.entry ≡ None)
-            (λ found. IsFirstLine self.entry found.0.now found.1) }
+            (λ line_and_rest. IsFirstLine self.entry line_and_rest.0.now line_and_rest.1) }
     {
         let bytes = self.text?;
         let (line, tail) = next_line(bytes);

@@ -43,7 +43,7 @@ fn name_of(alloc: Global, word: &[u8]) -> Result<Name, NoMemory>
     ensures { IfOk result (λ name. name ≡ word.now) }
 {
     match str::from_utf8(word) {
-        Ok(text) => Ok(Name::from_text(String::from_str(alloc, text)?)),
+        Ok(text) => Name::from_str(alloc, text),
         Err(_) => unreachable!(),
     }
 }
@@ -56,7 +56,7 @@ fn has_unknown_form(line: &WordedLine) -> bool
 }
 
 /// Whether a line begins an image of an unknown form.
-fn lacks_form(verb: Verb, line: &WordedLine) -> bool
+fn begins_unknown_form(verb: Verb, line: &WordedLine) -> bool
     ensures { result ≡ (is_image verb && has_unknown_form (words (plain_line line.now))) }
 {
     verb.is_image() && has_unknown_form(line)
@@ -74,7 +74,7 @@ pub fn line_verb(line: &WordedLine) -> Result<Verb, ScriptKind>
         Some(verb) => verb,
         None => return Err(ScriptKind::UnknownWord),
     };
-    if lacks_form(verb, line) {
+    if begins_unknown_form(verb, line) {
         return Err(ScriptKind::UnknownWord);
     }
     if line.count() != 1 + verb.operand_count() {
@@ -99,7 +99,7 @@ impl Reader {
 
     /// `machine D`
     #[tactic(auto, using(crate::proofs::OperandFaults::machine_fault))]
-    fn machine(mut self, line: &WordedLine) -> Result<Reader, ScriptKind>
+    fn read_machine(mut self, line: &WordedLine) -> Result<Reader, ScriptKind>
         ensures { HasReadPart result (rest_fault self.so_far Machine (statement_of_line line.now))
             (with_statement self.so_far Machine (statement_of_line line.now)) }
     {
@@ -108,7 +108,7 @@ impl Reader {
     }
 
     /// `user NAME`
-    fn user(mut self, word: &[u8]) -> Result<Reader, ScriptKind>
+    fn read_user(mut self, word: &[u8]) -> Result<Reader, ScriptKind>
         ensures { HasReadPart result (user_fault self.so_far.script.users word.now)
             (with_user self.so_far word.now) }
     {
@@ -131,7 +131,7 @@ impl Reader {
     }
 
     /// A command.
-    fn command(mut self, verb: Verb, line: &WordedLine) -> Result<Reader, ScriptKind>
+    fn read_command(mut self, verb: Verb, line: &WordedLine) -> Result<Reader, ScriptKind>
         requires command { IsTrue (is_command verb) }
         requires user { IsTrue (is_some self.so_far.user) }
         ensures { HasReadPart result
@@ -165,7 +165,7 @@ impl Reader {
     }
 
     /// `image NAME FORM`, its body and its `end`.
-    fn image<'a>(
+    fn read_image<'a>(
         self,
         line: &WordedLine,
         form: ImageForm,
@@ -207,16 +207,16 @@ impl Reader {
     }
 
     /// A statement that is no image.
-    fn other_statement(self, verb: Verb, line: &WordedLine) -> Result<Reader, ScriptKind>
+    fn read_other_statement(self, verb: Verb, line: &WordedLine) -> Result<Reader, ScriptKind>
         requires plain { is_image verb ≡ false }
         requires user { IsTrue (is_command verb) → IsTrue (is_some self.so_far.user) }
         ensures { HasReadPart result (rest_fault self.so_far verb (statement_of_line line.now))
             (with_statement self.so_far verb (statement_of_line line.now)) }
     {
         match verb {
-            Verb::Machine => self.machine(line),
-            Verb::User => self.user(line.operand(1)),
-            _ => self.command(verb, line),
+            Verb::Machine => self.read_machine(line),
+            Verb::User => self.read_user(line.operand(1)),
+            _ => self.read_command(verb, line),
         }
     }
 
@@ -230,7 +230,7 @@ impl Reader {
     }
 
     /// A statement; the lines that are left behind it.
-    fn statement<'a>(
+    fn read_statement<'a>(
         self,
         line: &WordedLine,
         rest: Rest<'a>,
@@ -244,8 +244,8 @@ impl Reader {
             Err(kind) => return Err(kind.fault_of_line(line.number)),
         };
         match (verb, form_of(line.operand(2))) {
-            (Verb::Image, Some(form)) => self.image(line, form, rest),
-            _ => match self.other_statement(verb, line) {
+            (Verb::Image, Some(form)) => self.read_image(line, form, rest),
+            _ => match self.read_other_statement(verb, line) {
                 Ok(reader) => Ok((reader, rest)),
                 Err(kind) => Err(kind.fault_of_line(line.number)),
             },
@@ -253,7 +253,11 @@ impl Reader {
     }
 
     /// A line; the lines that are left behind it, and behind the body of an image that it begins.
-    pub fn line<'a>(self, text: &[u8], rest: Rest<'a>) -> Result<(Reader, Rest<'a>), ScriptFault>
+    pub fn read_line<'a>(
+        self,
+        text: &[u8],
+        rest: Rest<'a>,
+    ) -> Result<(Reader, Rest<'a>), ScriptFault>
         ensures stands { (all : List ScriptStatement)
             → HasReadUpTo all self.so_far (remaining_statements false
             (record { number = rest.entry.line_count; text = text.now } ∷ lines_left rest.entry))
@@ -267,6 +271,6 @@ impl Reader {
         if line.words.is_empty() {
             return Ok((self, rest));
         }
-        self.statement(&line, rest)
+        self.read_statement(&line, rest)
     }
 }

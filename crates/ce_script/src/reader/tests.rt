@@ -68,9 +68,9 @@ fn have_faults(rt: &impl Abort, alloc: Global, rows: &[(&[u8], u32, ScriptKind)]
     }
 }
 
-/// Each kind, with a later one on the same line or behind it.
+/// Each kind up to the verb's place, with a later one on the same line or behind it.
 #[test]
-fn kinds_of_faults(rt: HostRuntime) {
+fn kinds_of_faults_up_to_the_place(rt: HostRuntime) {
     have_faults(
         &rt,
         rt.alloc(),
@@ -81,6 +81,17 @@ fn kinds_of_faults(rt: HostRuntime) {
             (b"run x\n", 1, ScriptKind::NoMachine),
             (b"machine 0\nmachine x\n", 2, ScriptKind::SecondMachine),
             (b"machine 0\nrun x\n", 2, ScriptKind::NoUser),
+        ],
+    );
+}
+
+/// Each kind behind those, with a later one on the same line or behind it.
+#[test]
+fn kinds_of_faults_behind_the_place(rt: HostRuntime) {
+    have_faults(
+        &rt,
+        rt.alloc(),
+        &[
             (
                 b"machine 0\nuser a\nsend x 0 abc\n",
                 3,
@@ -157,15 +168,14 @@ fn faults_of_lines(rt: HostRuntime) {
     );
 }
 
-/// Bodies of images, and what ends them.
+/// A bad byte of a body comes before all else of the body, and behind what is wrong with the image's
+/// line.
 #[test]
-fn faults_of_bodies(rt: HostRuntime) {
+fn bad_bytes_of_bodies(rt: HostRuntime) {
     have_faults(
         &rt,
         rt.alloc(),
         &[
-            // A bad byte of a body comes before all else of the body, and behind what is wrong with
-            // the image's line.
             (
                 b"machine 0\nimage x hex\nzz\n\xC8\nend\n",
                 4,
@@ -186,7 +196,17 @@ fn faults_of_bodies(rt: HostRuntime) {
                 2,
                 ScriptKind::BadName,
             ),
-            // What ends a body, and what doesn't.
+        ],
+    );
+}
+
+/// What ends a body, and what doesn't.
+#[test]
+fn ends_of_bodies(rt: HostRuntime) {
+    have_faults(
+        &rt,
+        rt.alloc(),
+        &[
             (b"machine 0\nend\n", 2, ScriptKind::UnknownWord),
             (
                 b"machine 0\nimage x hex\nend end\nend:\nend\n",
@@ -207,15 +227,21 @@ fn faults_of_bodies(rt: HostRuntime) {
     );
 }
 
+/// Adds eight images, of which the names begin with this letter.
+fn push_images(text: &mut Vec<u8>, letter: u8) -> Result<(), AllocError> {
+    for further_letter in b'a'..b'i' {
+        text.extend_from_slice(b"image ")?;
+        text.extend_from_slice(&[letter, further_letter])?;
+        text.extend_from_slice(b" hex\n00000073\nend\n")?;
+    }
+    Ok(())
+}
+
 /// A script of 64 images, and the line of one more, which lacks its end.
 fn too_many_images(alloc: Global) -> Result<Vec<u8>, AllocError> {
     let mut text = Vec::from_slice(alloc, b"machine 0\n")?;
-    for tens in b'a'..b'i' {
-        for ones in b'a'..b'i' {
-            text.extend_from_slice(b"image ")?;
-            text.extend_from_slice(&[tens, ones])?;
-            text.extend_from_slice(b" hex\n00000073\nend\n")?;
-        }
+    for letter in b'a'..b'i' {
+        push_images(&mut text, letter)?;
     }
     text.extend_from_slice(b"image x hex\n")?;
     Ok(text)

@@ -19,7 +19,7 @@ use Rattle.ce_model.specs.Owners.{IsBlockOf}
 use Rattle.ce_model.specs.Renaming.{CubeGrant, place_outward, block_outward, number_outward, renamed_targets, renamed_item, renamed_record}
 use Rattle.ce_model.specs.Machine.{item_inward, without_taken_item, waiting_items_after, record_after_entry}
 use Rattle.ce_model.proofs.OneMore.{taken_for}
-use Rattle.ce_solo.proofs.Lists.{with_appended, with_appended-is, filter-all, none-from_count, count_by-cons, one_if-true, one_if-false}
+use Rattle.ce_solo.proofs.Lists.{with_appended, with_appended-is, filter-all, none-from_count, count_by-cons, truth_bit-true, truth_bit-false}
 use Rattle.ce_solo.proofs.Entries.{waiting_after}
 use Rattle.ce_solo.proofs.Entries as entry_states
 use Rattle.ce_solo.proofs.Projection.Numbers.{IsPlaced, IsNumber, IsWhatOf, what_outward, entry_outward, out_test, place_in_out}
@@ -154,7 +154,8 @@ module _ (dim : ℕ) (grant : CubeGrant) (of : IsPlaced dim grant) where
 
 -- ---- what an entry takes
 
-named-renamed : (rename : BlockId → BlockId) (given : TakeResult) (item : Item) → is_named_by given (renamed_item rename item) ≡ is_named_by given item
+-- an item of which the blocks have other names is the one of the same name
+pub named-renamed : (rename : BlockId → BlockId) (given : TakeResult) (item : Item) → is_named_by given (renamed_item rename item) ≡ is_named_by given item
 named-renamed rename given (start pid image) = refl
 named-renamed rename (take_result.Start pid image) (mail parcel) = refl
 named-renamed rename (take_result.Mail pid number) (mail parcel) = refl
@@ -170,12 +171,12 @@ first_out rename given [] once = refl
 first_out rename given (item ∷ items) once =
     elim (cases_Bool (is_named_by given item)) [
       | inl named ↦
-          let none = none-from_count (is_named_by given) items (omega (arith, once, count_by-cons (is_named_by given) item items, one_if-true (is_named_by given item) named)) in
+          let none = none-from_count (is_named_by given) items (omega (arith, once, count_by-cons (is_named_by given) item items, truth_bit-true (is_named_by given item) named)) in
           rw (named-renamed rename given item, named) (ap (map (renamed_item rename)) (sym (filter-all (is_named_by given) items none)))
       | inr other ↦
           rw (named-renamed rename given item, other)
           (ap (λ rest. renamed_item rename item ∷ rest)
-          (first_out rename given items (omega (arith, once, count_by-cons (is_named_by given) item items, one_if-false (is_named_by given item) other))))
+          (first_out rename given items (omega (arith, once, count_by-cons (is_named_by given) item items, truth_bit-false (is_named_by given item) other))))
     ]
 
 module _ (dim : ℕ) (grant : CubeGrant) (of : IsPlaced dim grant) (entry : Entry) (actor : IsNumber grant.dim entry.actor) (is : IsWhatOf grant.dim entry.what) where

@@ -4,8 +4,8 @@ use Rattle.rv_model.specs.declared.stop.Stop.{Stop}
 use Rattle.rv_model.specs.declared.stop.Stop.TheVariants.{Illegal}
 use Rattle.rv_model.specs.declared.inst.Inst.{Inst}
 use Rattle.rv_model.specs.declared.inst.Inst.TheVariants.{Lui, Auipc, Jal, Jalr, Branch, Load, Store, OpImm, Op, Fence, Ecall, Ebreak}
-use Rattle.rv_model.specs.Words.{dec}
-use Rattle.rv_model.specs.Exec.{Access, Outcome, next_state, call_state, stop_state, ◌>>=◌, register_value, with_register, is_taken, load_size, store_size, loaded_number, next_pc, offset_by, jump_outcome, effect_of, exec}
+use Rattle.rv_model.specs.Words.{instruction_of}
+use Rattle.rv_model.specs.Exec.{Access, Outcome, next_state, call_state, stop_state, ◌>>=◌, register_value, with_register, is_taken, load_size, store_size, loaded_number, next_pc, offset_by, jump_outcome, effect_of, step_outcome}
 use Rattle.ce_model.specs.Space.{result_map}
 use Rattle.ce_solo.proofs.Renaming.Lists.{if_both}
 
@@ -68,14 +68,14 @@ module _ {M : Type 0} (A : Access M) (g : M → M) (Q : M → Type 0) (alike : I
   performed-alike Ecall x pc m q = record { same = refl; left = q }
   performed-alike Ebreak x pc m q = record { same = refl; left = tt }
 
-  pub exec-alike : (x : List ℕ) (pc : ℕ) (m : M) → Q m → AreAlike (exec A x pc (g m)) (exec A x pc m)
-  unfolding exec
-  exec-alike x pc m q =
+  pub step_outcome-alike : (x : List ℕ) (pc : ℕ) (m : M) → Q m → AreAlike (step_outcome A x pc (g m)) (step_outcome A x pc m)
+  unfolding step_outcome
+  step_outcome-alike x pc m q =
       bound-alike (A.fetch (g m) pc) (A.fetch m pc)
-      (λ word. ok_or (dec word) (Illegal pc word) >>= λ inst. effect_of A inst x pc (g m))
-      (λ word. ok_or (dec word) (Illegal pc word) >>= λ inst. effect_of A inst x pc m)
+      (λ word. ok_or (instruction_of word) (Illegal pc word) >>= λ inst. effect_of A inst x pc (g m))
+      (λ word. ok_or (instruction_of word) (Illegal pc word) >>= λ inst. effect_of A inst x pc m)
       (alike.fetched m pc)
       (λ word.
-      bound-alike (ok_or (dec word) (Illegal pc word)) (ok_or (dec word) (Illegal pc word))
+      bound-alike (ok_or (instruction_of word) (Illegal pc word)) (ok_or (instruction_of word) (Illegal pc word))
       (λ inst. effect_of A inst x pc (g m)) (λ inst. effect_of A inst x pc m) refl
       (λ inst. performed-alike inst x pc m q))

@@ -4,13 +4,13 @@ use Rattle.rv_model.specs.declared.stop.Stop.{Stop}
 use Rattle.rv_model.specs.declared.stop.Stop.TheVariants.{TurnSpent}
 use Rattle.rv_model.specs.Exec.{Outcome, next_state, call_state, stop_state}
 use Rattle.ce_model.specs.Space.{Space, process_access}
-use Rattle.ce_model.specs.Process.{Process, moved_process}
+use Rattle.ce_model.specs.Process.{Process, moved_process, instruction_outcome}
 use Rattle.ce_model.specs.Node.{Turn, Node, process_at, with_process, with_stopped_process}
 use Rattle.ce_model.specs.Kernel.{CallOutcome, continuation, departure, turn_conclusion, kernel}
-use Rattle.ce_model.specs.Saying.{Saying, idle_saying, saying_after_call, saying_after_instruction, instruction, turn_saying, saying_in, says}
+use Rattle.ce_model.specs.Saying.{Saying, idle_saying, saying_after_call, saying_after_instruction, turn_saying, saying_in, says}
 use Rattle.ce_model.specs.Renaming.{renamed_space, renamed_call_blocks}
 use Rattle.ce_solo.proofs.Renaming.Memory.{IsNamedSpace, loaded-renamed, stored-renamed, stored-named}
-use Rattle.ce_solo.proofs.Renaming.Instruction.{IsAlike, AreAlike, exec-alike}
+use Rattle.ce_solo.proofs.Renaming.Instruction.{IsAlike, AreAlike, step_outcome-alike}
 use Rattle.ce_solo.proofs.Renaming.Nodes.{IsNamed, process-named, with_process-named, process-renamed, with_process-renamed, with_stopped-renamed, take-renamed}
 use Rattle.ce_solo.proofs.Renaming.Calls.{Names, node_with_names, process_with_names, AreDid}
 use Rattle.ce_solo.proofs.Renaming.Messages.{kernel-alike}
@@ -77,9 +77,9 @@ module _ (names : Names) where
   runs-alike (suc left) node turn named =
       let p = process_at node turn.pid in
       let own = process-named names.P node turn.pid named in
-      ap (λ p. saying_after_instruction (turn_saying left) left (node_with_names names node) turn p (instruction p)) (process-renamed names.rename names.home node turn.pid)
-      ∙ saying_after_instruction-alike (turn_saying left) left node turn p _ (instruction p) (runs-alike left) named own
-      (exec-alike process_access space_with_names IsNamedMemory memory-alike p.registers p.pc p.space own)
+      ap (λ p. saying_after_instruction (turn_saying left) left (node_with_names names node) turn p (instruction_outcome p)) (process-renamed names.rename names.home node turn.pid)
+      ∙ saying_after_instruction-alike (turn_saying left) left node turn p _ (instruction_outcome p) (runs-alike left) named own
+      (step_outcome-alike process_access space_with_names IsNamedMemory memory-alike p.registers p.pc p.space own)
 
   saying_in-renamed : (node : Node) (turn : Option Turn) → IsNamed names.P node → saying_in (node_with_names names node) turn ≡ saying_with_names (saying_in node turn)
   unfolding IsTurnAlike

@@ -8,7 +8,7 @@ ghost use Rattle.rv_image.specs.Rki1.{IsRki1, fields_of, fault_of};
 
 use super::{Image, is_entry, is_too_large};
 use crate::ImageFault;
-use rv_model::{NoMemory, word_in};
+use rv_model::{NoMemory, word_at};
 use std::alloc::Global;
 
 /// With these bytes RKI1 begins.
@@ -35,7 +35,7 @@ struct Fields<'a> {
 }
 
 /// What the bytes hold, or why they are no RKI1.
-fn fields_in(bytes: &[u8]) -> Result<Fields<'_>, ImageFault>
+fn fields_of(bytes: &[u8]) -> Result<Fields<'_>, ImageFault>
     ensures found { IfOk result
         (λ fields. image_parts fields.entry fields.loaded.now fields.zero ≡ fields_of bytes.now) }
     ensures fault { result_err result ≡ fault_of bytes.now }
@@ -46,15 +46,15 @@ fn fields_in(bytes: &[u8]) -> Result<Fields<'_>, ImageFault>
     if !bytes.starts_with(&MAGIC) {
         return Err(ImageFault::Magic);
     }
-    let loaded_len = word_in(bytes, LOADED_LEN_AT) as usize;
-    let zero = word_in(bytes, ZERO_LEN_AT);
+    let loaded_len = word_at(bytes, LOADED_LEN_AT) as usize;
+    let zero = word_at(bytes, ZERO_LEN_AT);
     if is_too_large(loaded_len, zero as usize) {
         return Err(ImageFault::TooLarge);
     }
     if bytes.len() != HEADER_LEN + loaded_len {
         return Err(ImageFault::Length);
     }
-    let entry = word_in(bytes, ENTRY_AT);
+    let entry = word_at(bytes, ENTRY_AT);
     if !is_entry(entry, loaded_len) {
         return Err(ImageFault::Entry);
     }
@@ -77,7 +77,7 @@ pub fn read(alloc: Global, bytes: &[u8]) -> Result<Image, ImageFault>
     // Which fault it is.
     ensures exact { named_cause result ≡ fault_of bytes.now }
 {
-    let fields = fields_in(bytes)?;
+    let fields = fields_of(bytes)?;
     let loaded = Vec::from_slice(alloc, fields.loaded)?;
     Ok(Image {
         entry: fields.entry,

@@ -1,15 +1,13 @@
 // The expected values were worked out by hand from the RISC-V unprivileged specification.
 use super::*;
 use crate::PrivateMemory;
-use rv_model::{AccessSize, Register, Stop};
+use rv_model::{AccessSize, PRIVATE_START, Register, Stop, WORD_SIZE};
 use std::process::Abort;
 use std::test::Fail;
 
-const START: u32 = 0x1_0000;
+const NEXT: u32 = PRIVATE_START + WORD_SIZE;
 
-const NEXT: u32 = 0x1_0004;
-
-const DATA: u32 = 0x1_0100;
+const DATA: u32 = PRIVATE_START + 0x100;
 
 const ONES: u32 = 0xFFFF_FFFF;
 
@@ -26,7 +24,7 @@ fn three_registers(x1: u32, x2: u32, x3: u32) -> Registers {
     registers
 }
 
-// Checks what `word` does at START.
+// Checks what `word` does at PRIVATE_START.
 fn check(
     rt: &impl Abort,
     memory: &mut PrivateMemory,
@@ -36,8 +34,11 @@ fn check(
     after: Registers,
     target: u32,
 ) {
-    let mut pc = START;
-    assert_eq!(rt; memory.store(START, AccessSize::word(), word), Ok(()));
+    let mut pc = PRIVATE_START;
+    assert_eq!(rt;
+        memory.store(PRIVATE_START, AccessSize::word(), word),
+        Ok(())
+    );
     assert_eq!(rt; step(&mut registers, &mut pc, memory), event, "{word:x}");
     assert_eq!(rt; registers, after, "{word:x}");
     assert_eq!(rt; pc, target, "{word:x}");
@@ -226,25 +227,25 @@ fn branches(rt: HostRuntime) -> Result<(), Fail> {
 #[test]
 fn jumps(rt: HostRuntime) -> Result<(), Fail> {
     let mut memory = PrivateMemory::new(rt.alloc())?;
-    let refused = Event::Stopped(Stop::Target(START));
+    let refused = Event::Stopped(Stop::Target(PRIVATE_START));
     // Each word, x1 before it, what it comes to, and the pc and x1 afterwards.
     let rows = [
         // jal x1 by 6, 8 and -4
-        (0x006000EF, 0, refused, START, 0),
+        (0x006000EF, 0, refused, PRIVATE_START, 0),
         (0x008000EF, 0, Event::Advance, 0x1_0008, NEXT),
         (0xFFDFF0EF, 0, Event::Advance, 0xFFFC, NEXT),
         // jal x0 by 8
         (0x0080006F, 5, Event::Advance, 0x1_0008, 5),
         // bne x0, x0 by 6, and beq x0, x0 by 6
         (0x00001363, 0, Event::Advance, NEXT, 0),
-        (0x00000363, 0, refused, START, 0),
+        (0x00000363, 0, refused, PRIVATE_START, 0),
         // beq x0, x0 by -4
         (0xFE000EE3, 0, Event::Advance, 0xFFFC, 0),
         // jalr x1, 0(x1) and jalr x1, 1(x1)
         (0x000080E7, 0x1_0010, Event::Advance, 0x1_0010, NEXT),
-        (0x000080E7, 0x1_0012, refused, START, 0x1_0012),
+        (0x000080E7, 0x1_0012, refused, PRIVATE_START, 0x1_0012),
         (0x001080E7, 0x1_0008, Event::Advance, 0x1_0008, NEXT),
-        (0x001080E7, 0x1_0009, refused, START, 0x1_0009),
+        (0x001080E7, 0x1_0009, refused, PRIVATE_START, 0x1_0009),
         (0x001080E7, 0x1_000B, Event::Advance, 0x1_000C, NEXT),
     ];
     for (word, before, event, pc, after) in &rows {
@@ -329,9 +330,9 @@ fn stops(rt: HostRuntime) -> Result<(), Fail> {
     let mut memory = PrivateMemory::new(rt.alloc())?;
     let rows = [
         // the words 0, fence.i and ebreak
-        (0x00000000, 0, Stop::Illegal(START, 0)),
-        (0x0000100F, 0, Stop::Illegal(START, 0x0000100F)),
-        (0x00100073, 0, Stop::Break(START)),
+        (0x00000000, 0, Stop::Illegal(PRIVATE_START, 0)),
+        (0x0000100F, 0, Stop::Illegal(PRIVATE_START, 0x0000100F)),
+        (0x00100073, 0, Stop::Break(PRIVATE_START)),
         // lb, lh, lw and sw: a misaligned address comes first
         (0x00009183, 0x1_0101, Stop::Misaligned(0x1_0101)),
         (0x0000A183, 0x8000_0002, Stop::Misaligned(0x8000_0002)),
@@ -351,7 +352,7 @@ fn stops(rt: HostRuntime) -> Result<(), Fail> {
             registers,
             Event::Stopped(*cause),
             registers,
-            START,
+            PRIVATE_START,
         );
     }
     for start in [0xFFFC, 0x1_0002, 0x3_0000, 0x8000_0000] {
@@ -366,7 +367,7 @@ fn stops(rt: HostRuntime) -> Result<(), Fail> {
 fn calls(rt: HostRuntime) -> Result<(), Fail> {
     let mut memory = PrivateMemory::new(rt.alloc())?;
     memory.load_into_zeros(&[0x6F, 0, 0, 0, 9]);
-    assert_eq!(rt; memory.load(START, AccessSize::word()), Ok(0x6F));
+    assert_eq!(rt; memory.load(PRIVATE_START, AccessSize::word()), Ok(0x6F));
     assert_eq!(rt; memory.load(NEXT, AccessSize::word()), Ok(9));
     let registers = three_registers(1, 2, 3);
     check(
@@ -379,7 +380,7 @@ fn calls(rt: HostRuntime) -> Result<(), Fail> {
         NEXT,
     );
     memory.load_image(&[0x13, 0, 0, 0, 7]);
-    assert_eq!(rt; memory.load(START, AccessSize::word()), Ok(0x13));
+    assert_eq!(rt; memory.load(PRIVATE_START, AccessSize::word()), Ok(0x13));
     assert_eq!(rt; memory.load(NEXT, AccessSize::word()), Ok(7));
     memory.load_image(&[0x6F]);
     assert_eq!(rt; memory.bytes().first(), Some(&0x6F));

@@ -26,20 +26,20 @@ pub act-requires : goal.act-requires
 act-requires c = record {
   machine = c.requires.node.sound.within;
   fits = subst (λ actor. IsFitting c.args.machine.now.parts c.args.machine.now.history c.args.grant.now.user actor (cube_request (call_of_say c.args.say))) (sym c.node_of.ensures)
-      (call-fits c.args.machine.now c.args.grant.now c.args.r c.requires.node c.requires.said.0 c.args.node.now (call_of_say c.args.say) c.requires.said.1);
+      (call-fits c.args.machine.now c.args.grant.now c.args.r c.requires.node c.requires.said.0 c.args.node_box.now (call_of_say c.args.say) c.requires.said.1);
   boxes = tt;
 }
 
 pub hears-requires-clause-images : goal.hears-requires-clause-images
 hears-requires-clause-images c =
     ap length c.requires.images
-    ∙ sym (images-are c.args.machine.now c.args.grant.now c.args.r c.requires.node c.requires.said.0 c.args.node.now (call_of_say c.args.say) c.requires.said.1)
+    ∙ sym (images-are c.args.machine.now c.args.grant.now c.args.r c.requires.node c.requires.said.0 c.args.node_box.now (call_of_say c.args.say) c.requires.said.1)
 
 pub hears-requires-clause-heard : goal.hears-requires-clause-heard
 hears-requires-clause-heard c =
     let grown = c.in-Ok.ensures.grows in
-    subst (λ images. IsAbleToHear images c.args.node.now c.hearing_of_reply-hearing.result) (sym c.requires.images)
-    (stands-hear c.args.machine.now c.args.grant.now c.args.r c.requires.node c.requires.said.0 c.args.node.now (call_of_say c.args.say) c.requires.said.1
+    subst (λ images. IsAbleToHear images c.args.node_box.now c.hearing_of_reply-hearing.result) (sym c.requires.images)
+    (stands-hear c.args.machine.now c.args.grant.now c.args.r c.requires.node c.requires.said.0 c.args.node_box.now (call_of_say c.args.say) c.requires.said.1
     (λ box. box.node.home) IsCleanBox c.args.say refl c.hearing_of_reply-hearing.result grown.0 c.node_of.result c.node_of.ensures
     (subst (IsAnsweredBy (λ (box : Box). box.node.home) IsCleanBox c.args.machine.now.parts c.args.machine.now.history grown.0 (record { family = c.args.grant.now.user; actor = c.node_of.result }) (Say c.args.say)) c.hearing_of_reply-hearing.ensures grown.2))
 
@@ -47,15 +47,15 @@ pub returns : goal.returns
 returns c box called =
     let grown = c.in-Ok.ensures.grows in
     let m = c.args.machine.now in
-    subst (HasExchanged m c.act.new.self c.args.grant.now c.args.r box c.hears.new.self (call_of_say c.args.say)) (sym c.is_work-work.ensures)
-    (stands-exchanged m c.args.grant.now c.args.r c.requires.node box c.args.node.now (call_of_say c.args.say) called
+    subst (HasExchanged m c.act.new.self c.args.grant.now c.args.r box c.hears.new.self (call_of_say c.args.say)) (sym c.is_work-gives_work.ensures)
+    (stands-exchanged m c.args.grant.now c.args.r c.requires.node box c.args.node_box.now (call_of_say c.args.say) called
     (λ box. box.node.home) IsCleanBox c.args.say refl c.hearing_of_reply-hearing.result grown.0 c.node_of.result c.node_of.ensures
     (subst (IsAnsweredBy (λ (box : Box). box.node.home) IsCleanBox m.parts m.history grown.0 (record { family = c.args.grant.now.user; actor = c.node_of.result }) (Say c.args.say)) c.hearing_of_reply-hearing.ensures grown.2)
     c.act.new.self c.hears.new.self c.in-Ok.ensures.fixed grown.1
-    (c.hears.ensures.node ∙ ap (λ images. node_after_hearing images c.args.node.now.node (hearing_model c.hearing_of_reply-hearing.result)) c.requires.images) c.hears.ensures.room c.hears.ensures.out c.in-Ok.ensures.few)
+    (c.hears.ensures.node ∙ ap (λ images. node_after_hearing images c.args.node_box.now.node (hearing_model c.hearing_of_reply-hearing.result)) c.requires.images) c.hears.ensures.room c.hears.ensures.out c.in-Ok.ensures.few)
 
 pub hearing_of_reply-hearing-requires : goal.hearing_of_reply-hearing-requires
 hearing_of_reply-hearing-requires c =
     let grown = c.in-Ok.ensures.grows in
-    stands-heard c.args.machine.now c.args.grant.now c.args.r c.requires.node c.requires.said.0 c.args.node.now (call_of_say c.args.say) c.requires.said.1
+    stands-heard c.args.machine.now c.args.grant.now c.args.r c.requires.node c.requires.said.0 c.args.node_box.now (call_of_say c.args.say) c.requires.said.1
     (λ box. box.node.home) IsCleanBox c.args.say refl grown.0 c.node_of.result c.in-Ok.reply grown.2

@@ -4,9 +4,9 @@ use Rattle.xm_block.specs.Stores.{ids_of}
 use Rattle.ce_cube.specs.Homecoming.{emptied_box, names_in_boxes}
 use Rattle.ce_cube.proofs.rehoming.scrub_all.Given as goal
 
-abbrev pub invariant-loop-node : goal.invariant-loop-node
-invariant-loop-node l = record {
-  boxes : l.nodes ≡ map emptied_box (take l.node-index l.initial.nodes) ++ drop l.node-index l.initial.nodes;
-  moved : ids_of l.store.blocks ≡ with_ids (names_in_boxes (take l.node-index l.initial.nodes)) (ids_of l.initial.store.blocks);
-  spare : l.store.spare + length (names_in_boxes (take l.node-index l.initial.nodes)) ≡ l.initial.store.spare;
+abbrev pub invariant-loop-node_box : goal.invariant-loop-node_box
+invariant-loop-node_box l = record {
+  boxes : l.boxes ≡ map emptied_box (take l.node_box-index l.initial.boxes) ++ drop l.node_box-index l.initial.boxes;
+  moved : ids_of l.store.blocks ≡ with_ids (names_in_boxes (take l.node_box-index l.initial.boxes)) (ids_of l.initial.store.blocks);
+  spare : l.store.spare + length (names_in_boxes (take l.node_box-index l.initial.boxes)) ≡ l.initial.store.spare;
 }

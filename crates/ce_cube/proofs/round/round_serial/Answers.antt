@@ -15,18 +15,18 @@ loop-r-init c = round-starts c.args.machine.now (serial_facts c.args.crew.now) c
 pub loop-r-preserved : goal.loop-r-preserved
 loop-r-preserved c =
     round-goes_on c.args.machine.now c.loop-r.machine c.turn_of.new.machine (serial_facts c.args.crew.now) (serial_facts c.loop-r.crew) (serial_facts c.turn_of.new.crew)
-    c.loop-r.r c.loop-r.work c.in_ok-work.field-0
-    c.loop-r.invariant c.in_ok-work.ensures
+    c.loop-r.r c.loop-r.gives_work c.in_ok-gives_work.field-0
+    c.loop-r.invariant c.in_ok-gives_work.ensures
 
-pub returns-in_err-work : goal.returns-in_err-work
-returns-in_err-work c =
+pub returns-in_err-gives_work : goal.returns-in_err-gives_work
+returns-in_err-gives_work c =
     let p = err_from_is_err_and c.from_residual.result c.from_residual.ensures.1 in
-    rw p.1 (stopped-round c.args.machine.now c.loop-r.machine c.turn_of.new.machine (serial_facts c.args.crew.now) (serial_facts c.loop-r.crew) c.loop-r.r c.loop-r.work
-    c.loop-r.invariant c.in_err-work.ensures)
+    rw p.1 (stopped-round c.args.machine.now c.loop-r.machine c.turn_of.new.machine (serial_facts c.args.crew.now) (serial_facts c.loop-r.crew) c.loop-r.r c.loop-r.gives_work
+    c.loop-r.invariant c.in_err-gives_work.ensures)
 
 pub returns : goal.returns
 returns c =
     let end : c.loop-r.r ≡ 2 ^ c.args.crew.now.grant.dim =
     omega (arith, c.loop-r-test.false, c.loop-r.auto.r-end, c.len-count.ensures, c.requires.crew.boxes.all) in
-    round-stops c.args.machine.now c.loop-r.machine (serial_facts c.args.crew.now) (serial_facts c.loop-r.crew) c.loop-r.work
-    (subst (λ r. IsRoundUnderWay c.args.machine.now c.loop-r.machine (serial_facts c.args.crew.now) (serial_facts c.loop-r.crew) r c.loop-r.work) end c.loop-r.invariant)
+    round-stops c.args.machine.now c.loop-r.machine (serial_facts c.args.crew.now) (serial_facts c.loop-r.crew) c.loop-r.gives_work
+    (subst (λ r. IsRoundUnderWay c.args.machine.now c.loop-r.machine (serial_facts c.args.crew.now) (serial_facts c.loop-r.crew) r c.loop-r.gives_work) end c.loop-r.invariant)

@@ -8,11 +8,11 @@ overflow_add-crew c =
     omega (
       arith,
       entries-few c.args.machine.now c.take_turn.new.machine (serial_facts c.args.crew.now) (serial_facts c.args.crew.now) c.args.r c.in_ok-turn.turn.entries
-          c.take_turn.new.node c.in_ok-turn.turn.has_work
+          c.take_turn.new.node_box c.in_ok-turn.turn.has_work
           c.requires.crew c.requires.node c.in_ok-turn.ensures.turn c.in_ok-turn.ensures.in_step,
     )
 
 pub returns : goal.returns
 returns c =
-    turn-taken c.args.machine.now c.take_turn.new.machine (serial_facts c.args.crew.now) _ c.args.r c.in_ok-turn.turn.entries c.take_turn.new.node c.in_ok-turn.turn.has_work
+    turn-taken c.args.machine.now c.take_turn.new.machine (serial_facts c.args.crew.now) _ c.args.r c.in_ok-turn.turn.entries c.take_turn.new.node_box c.in_ok-turn.turn.has_work
     c.requires.crew c.requires.node c.in_ok-turn.ensures.turn c.in_ok-turn.ensures.in_step refl refl refl refl

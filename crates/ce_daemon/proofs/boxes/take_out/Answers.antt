@@ -35,9 +35,9 @@ loop-r-preserved g c =
     let sub = c.args.sub.now in
     let home = g.N.Homed.home in
     let clean = g.N.Homed.clean in
-    let count = count_is c.args.d sub.mask c.requires.subcube.dimension in
-    let here : l.r < 2 ^ c.args.d = omega (arith, count) in
-    let ones : 2 ^ ones_of greatest_dim sub.mask ≡ 2 ^ c.args.d = ap (λ n. 2 ^ n) c.requires.subcube.dimension in
+    let count = count_is c.args.cube_dim sub.mask c.requires.subcube.dimension in
+    let here : l.r < 2 ^ c.args.cube_dim = omega (arith, count) in
+    let ones : 2 ^ ones_of greatest_dim sub.mask ≡ 2 ^ c.args.cube_dim = ap (λ n. 2 ^ n) c.requires.subcube.dimension in
     let apart = c.requires.subcube.apart in
     let index = c.node_of-node.result in
     let at_node : index ≡ node_of sub l.r = c.node_of-node.ensures in
@@ -64,5 +64,5 @@ loop-r-preserved g c =
 
 pub returns-clause-taken : goal.returns-clause-taken
 returns-clause-taken g c =
-    let same : c.loop-r.r ≡ 2 ^ c.args.d = omega (arith, count_is c.args.d c.args.sub.now.mask c.requires.subcube.dimension) in
+    let same : c.loop-r.r ≡ 2 ^ c.args.cube_dim = omega (arith, count_is c.args.cube_dim c.args.sub.now.mask c.requires.subcube.dimension) in
     rw same at c.loop-r.invariant.out

@@ -8,8 +8,8 @@ use Rattle.ce_daemon.proofs.boxes.take_out.Given as goal
 abbrev pub invariant-loop-r : goal.invariant-loop-r
 invariant-loop-r g l = record {
   out : AreBoxes g.N.Homed.home g.N.Homed.clean l.r (node_of l.sub) l.boxes.items;
-  rest : (s : ℕ) → l.r ≤ s → s < 2 ^ l.d → HasBox g.N.Homed.home g.N.Homed.clean l.places.items (node_of l.sub s);
+  rest : (s : ℕ) → l.r ≤ s → s < 2 ^ l.cube_dim → HasBox g.N.Homed.home g.N.Homed.clean l.places.items (node_of l.sub s);
   others : (node : ℕ) → is_inside l.sub node ≡ false → HasBox g.N.Homed.home g.N.Homed.clean l.initial.places.items node → HasBox g.N.Homed.home g.N.Homed.clean l.places.items node;
   all : length l.places.items ≡ length l.initial.places.items;
-  room : 2 ^ l.d ≤ vec_capacity l.boxes;
+  room : 2 ^ l.cube_dim ≤ vec_capacity l.boxes;
 }

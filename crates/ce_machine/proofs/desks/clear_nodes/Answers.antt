@@ -2,7 +2,7 @@ use Rattle.std.proofs.Common.{◌≡◌, ◌+◌, ◌<◌, ◌^◌, length, set,
 use Rattle.ce_model.specs.Trace.{NodeRecord, blank_record}
 use Rattle.ce_model.specs.Subcubes.{node_of}
 use Rattle.ce_machine.specs.Desks.{AreChanged}
-use Rattle.ce_machine.proofs.Loops.{at_first, first-none, first-read, first-more, first-all}
+use Rattle.ce_machine.proofs.Loops.{change_at_first_nodes, first-none, first-read, first-more, first-all}
 use Rattle.ce_machine.proofs.desks.clear_nodes.Goals as goal
 
 abbrev clear : NodeRecord → NodeRecord
@@ -29,7 +29,7 @@ loop-r-preserved c =
     let now = c.loop-r.desks.items in
     let below : r < 2 ^ d = omega (arith, c.loop-r-test.true, c.node_count-r-end.ensures) in
     let has : node_of sub r < length old = c.requires.sub.within r below in
-    subst (λ n. AreChanged old (set now n c.clear.new.self) (at_first sub (r + 1) clear)) (sym c.node_at.ensures)
+    subst (λ n. AreChanged old (set now n c.clear.new.self) (change_at_first_nodes sub (r + 1) clear)) (sym c.node_at.ensures)
     (first-more sub d r c.requires.sub.sub_is below clear old now c.clear.new.self has c.loop-r.invariant c.clear.ensures)
 
 pub returns : goal.returns
@@ -38,4 +38,4 @@ returns c =
     let d = c.args.grant.now.dim in
     let end : c.loop-r.r ≡ 2 ^ d = omega (arith, c.loop-r-test.false, c.loop-r.auto.r-end, c.node_count-r-end.ensures) in
     first-all sub d clear c.args.desks.now.items c.loop-r.desks.items c.requires.sub.sub_is
-    (subst (λ n. AreChanged c.args.desks.now.items c.loop-r.desks.items (at_first sub n clear)) end c.loop-r.invariant)
+    (subst (λ n. AreChanged c.args.desks.now.items c.loop-r.desks.items (change_at_first_nodes sub n clear)) end c.loop-r.invariant)

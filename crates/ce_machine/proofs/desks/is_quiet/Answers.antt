@@ -2,7 +2,7 @@ use Rattle.std.proofs.Common.{◌≡◌, ℕ, ◌+◌, Bool, ◌&&◌, List, sym
 use Rattle.std.specs.List.{list_all}
 use Rattle.ce_model.specs.Answers.{is_quiet_node}
 use Rattle.ce_machine.specs.Tables.{desk_at}
-use Rattle.ce_machine.proofs.Loops.{rest_from, rest-more, rest-whole}
+use Rattle.ce_machine.proofs.Loops.{nodes_from, rest-more, rest-whole}
 use Rattle.ce_machine.proofs.desks.is_quiet.Goals.{After-is_quiet}
 use Rattle.ce_machine.proofs.desks.is_quiet.Goals as goal
 
@@ -11,7 +11,7 @@ module _ (c : After-is_quiet) where
   quiet nodes = list_all (λ node. is_quiet_node (desk_at c.args.desks.now.items node)) nodes
 
   abbrev left : ℕ → List ℕ
-  left r = rest_from c.args.grant.now.sub r c.node_count-r-end.result
+  left r = nodes_from c.args.grant.now.sub r c.node_count-r-end.result
 
   -- all are quiet if this one is, and those behind it
   looked : quiet (left 0) ≡ (c.is_quiet.result && quiet (left (c.loop-r.r + 1)))

@@ -1,4 +1,4 @@
-use Rattle.ce_record.proofs.Held.{held_is_held}
+use Rattle.ce_record.proofs.HeldCubes.{held_is_held}
 use Rattle.ce_record.proofs.laws.holdings_are_the_machines_law.Goals as goal
 
 pub returns : goal.returns

@@ -1,4 +1,4 @@
-use Rattle.ce_record.proofs.Held.{held_after_is_held}
+use Rattle.ce_record.proofs.HeldCubes.{held_after_is_held}
 use Rattle.ce_record.proofs.laws.holdings_follow_doings_law.Goals as goal
 
 pub returns : goal.returns

@@ -1,4 +1,4 @@
-use Rattle.ce_record.proofs.Held.{others_stay}
+use Rattle.ce_record.proofs.HeldCubes.{others_stay}
 use Rattle.ce_record.proofs.laws.others_stay_law.Goals as goal
 
 pub returns : goal.returns

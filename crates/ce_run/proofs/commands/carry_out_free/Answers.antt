@@ -4,8 +4,8 @@ use Rattle.ce_script.specs.Bounds.{IsCommandWithin}
 use Rattle.ce_run.proofs.Carrying.{no-cube-done}
 use Rattle.ce_run.proofs.commands.carry_out_free.Goals as goal
 
-pub get_cube-requires-clause-dim : goal.get_cube-requires-clause-dim
-get_cube-requires-clause-dim c = subst (IsCommandWithin _) c.in-Getcube.is c.requires.command
+pub getcube-requires-clause-dim : goal.getcube-requires-clause-dim
+getcube-requires-clause-dim c = subst (IsCommandWithin _) c.in-Getcube.is c.requires.command
 
 pub returns-in_default : goal.returns-in_default
 returns-in_default c =

@@ -6,7 +6,7 @@ use Rattle.ce_cube.specs.Crews.{serial_facts}
 use Rattle.ce_script.specs.Rounds.{serial}
 use Rattle.ce_script.specs.Bounds.{IsCommandWithin}
 use Rattle.ce_host.specs.declared.answer.Answer.TheVariants.{Held, Entries}
-use Rattle.ce_run.specs.UserStates.{HasDone, own_crew}
+use Rattle.ce_run.specs.UserStates.{HasDone, cube_crew}
 use Rattle.ce_run.proofs.StatesBehind.{done-at-once}
 use Rattle.ce_run.proofs.Going.{ready-stays}
 use Rattle.ce_run.proofs.Carrying.{held-done, trace-done, command-done}
@@ -14,26 +14,26 @@ use Rattle.ce_run.proofs.commands.carry_out_in_cube.Goals as goal
 
 pub returns-in-Getcube : goal.returns-in-Getcube
 returns-in-Getcube c =
-    subst (λ command. HasDone serial c.args.machine.now c.args.machine.now c.args.crew.now.grant.user command Held (own_crew (serial_facts c.args.crew.now)))
+    subst (λ command. HasDone serial c.args.machine.now c.args.machine.now c.args.crew.now.grant.user command Held (cube_crew (serial_facts c.args.crew.now)))
     (sym c.in-Getcube.is)
     (held-done c.args.machine.now (serial_facts c.args.crew.now) c.requires.ready.crew_is.user.sound c.requires.ready.crew_is.in_step serial c.in-Getcube.field-0)
 
 pub returns-in-Dump : goal.returns-in-Dump
 returns-in-Dump c =
-    subst (λ command. HasDone serial c.args.machine.now c.args.machine.now c.args.crew.now.grant.user command c.status.result (own_crew
+    subst (λ command. HasDone serial c.args.machine.now c.args.machine.now c.args.crew.now.grant.user command c.status.result (cube_crew
     (serial_facts c.args.crew.now)))
     (sym c.in-Dump.is)
-    (done-at-once serial c.args.machine.now c.args.crew.now.grant.user _ c.status.result (own_crew (serial_facts c.args.crew.now)) c.requires.ready.crew_is.user.sound
+    (done-at-once serial c.args.machine.now c.args.crew.now.grant.user _ c.status.result (cube_crew (serial_facts c.args.crew.now)) c.requires.ready.crew_is.user.sound
     (c.status.ensures c.args.machine.now.parts c.args.machine.now.history c.requires.ready.crew_is.in_step) (refl, c.requires.ready.crew_is.in_step))
 
 pub returns-in-Trace : goal.returns-in-Trace
 returns-in-Trace c =
-    subst (λ command. HasDone serial c.args.machine.now c.args.machine.now c.args.crew.now.grant.user command (Entries c.args.crew.now.entries) (own_crew
+    subst (λ command. HasDone serial c.args.machine.now c.args.machine.now c.args.crew.now.grant.user command (Entries c.args.crew.now.entries) (cube_crew
     (serial_facts c.args.crew.now)))
     (sym c.in-Trace.is) (trace-done c.args.machine.now (serial_facts c.args.crew.now) c.requires.ready.crew_is.user.sound c.requires.ready.crew_is.in_step serial)
 
-pub start-requires-clause-image : goal.start-requires-clause-image
-start-requires-clause-image c = subst (IsCommandWithin _) c.in-Spawn.is c.requires.within
+pub spawn-requires-clause-image : goal.spawn-requires-clause-image
+spawn-requires-clause-image c = subst (IsCommandWithin _) c.in-Spawn.is c.requires.within
 
 pub allow-requires-clause-count : goal.allow-requires-clause-count
 allow-requires-clause-count c = subst (IsCommandWithin _) c.in-Run.is c.requires.within
@@ -53,14 +53,14 @@ returns-in_ok-allow-in-Run c =
 pub allow-requires-in-Recv-clause-count : goal.allow-requires-in-Recv-clause-count
 allow-requires-in-Recv-clause-count c = subst (IsCommandWithin _) c.in-Recv.is c.requires.within
 
-pub receive-requires : goal.receive-requires
-receive-requires c =
+pub recv-requires : goal.recv-requires
+recv-requires c =
     ready-stays serial c.args.machine.now c.allow-in-Recv.new.machine (serial_facts c.args.crew.now) (serial_facts c.allow-in-Recv.new.crew) (host_entry
     c.args.crew.now.grant.user (Arm c.in-Recv.count) ∷ [])
     c.args.images.now c.in_ok-allow-in-Recv.ensures c.requires.ready
 
 pub returns-in_ok-allow-in-Recv : goal.returns-in_ok-allow-in-Recv
 returns-in_ok-allow-in-Recv c =
-    command-done serial c.args.machine.now c.allow-in-Recv.new.machine c.receive.new.machine (serial_facts c.args.crew.now)
-    (serial_facts c.allow-in-Recv.new.crew) (serial_facts c.receive.new.crew) Recv c.args.command.now c.in-Recv.count
-    c.receive.result c.in-Recv.is c.requires.ready.crew_is c.in_ok-allow-in-Recv.ensures c.receive.ensures
+    command-done serial c.args.machine.now c.allow-in-Recv.new.machine c.recv.new.machine (serial_facts c.args.crew.now)
+    (serial_facts c.allow-in-Recv.new.crew) (serial_facts c.recv.new.crew) Recv c.args.command.now c.in-Recv.count
+    c.recv.result c.in-Recv.is c.requires.ready.crew_is c.in_ok-allow-in-Recv.ensures c.recv.ensures

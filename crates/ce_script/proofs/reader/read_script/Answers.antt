@@ -3,7 +3,8 @@ use Rattle.std.proofs.lemmas.Result.{err_from_is_err_and}
 use Rattle.ce_script.specs.Lines.{Line}
 use Rattle.ce_script.specs.Statements.{statements}
 use Rattle.ce_script.specs.ReadLines.{lines_left, remaining_statements}
-use Rattle.ce_script.specs.Standing.{HasReadUpTo, first_statement_fault}
+use Rattle.ce_script.specs.Faults.{first_statement_fault}
+use Rattle.ce_script.specs.Standing.{HasReadUpTo}
 use Rattle.ce_script.proofs.BodyLines.{line_at}
 use Rattle.ce_script.proofs.BodyEnds.{next_line}
 use Rattle.ce_script.proofs.Further.{begins_reading, ends_reading, is_known, is_no_want, first_is}

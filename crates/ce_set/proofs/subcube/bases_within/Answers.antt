@@ -1,9 +1,9 @@
 use Rattle.std.proofs.Common.{◌≡◌, ℕ, suc, ◌+◌, ◌-◌, ◌/◌, ◌%◌, ◌^◌, ◌≤◌, Bool, ◌&&◌, ◌==◌, refl, sym, ap, ◌∙◌, arith}
 use Rattle.std.proofs.lemmas.Bool.{and_parts, and_from, eqb-true, eq-eqb}
 use Rattle.ce_model.specs.Limits.{greatest_dim, greatest_dim_lem}
+use Rattle.ce_model.specs.Parcels.{is_member}
 use Rattle.ce_model.specs.Subcubes.{extract, extracted_bits, deposit, ones_of, is_base, are_all_nodes, subcube}
 use Rattle.ce_model.proofs.Subcubes.{all_nodes-at, all_nodes-each}
-use Rattle.ce_set.specs.Words.{has_bit}
 use Rattle.ce_set.proofs.Steps.{even_where_clear, odd_where_set}
 use Rattle.ce_set.proofs.WordBits.{same_test}
 use Rattle.ce_set.proofs.Covers.{covers, covers-one, covers-none, covers-apart, covers-each, covers-from, half_shifted}
@@ -39,14 +39,14 @@ loop-place-preserved-then-mask-place-eq1 c = λ n.
     let p = l.place - 1 in
     let one = odd_where_set (c.args.mask / 2 ^ p) c.if-mask-place-eq1.true in
     c.lower_halves-bases.ensures n
-    ∙ rw (l.invariant n, l.invariant (n + 2 ^ p)) (one_more greatest_dim p l.place (has_bit c.args.set) c.args.mask n (omega arith) (omega (arith, greatest_dim_lem)) one)
+    ∙ rw (l.invariant n, l.invariant (n + 2 ^ p)) (one_more greatest_dim p l.place (λ k. is_member k c.args.set) c.args.mask n (omega arith) (omega (arith, greatest_dim_lem)) one)
 
 pub loop-place-preserved : goal.loop-place-preserved
 loop-place-preserved c = λ n.
     let l = c.loop-place in
     let p = l.place - 1 in
     let none = even_where_clear (c.args.mask / 2 ^ p) c.if-mask-place-eq1.false in
-    l.invariant n ∙ none_more greatest_dim p l.place (has_bit c.args.set) c.args.mask n (omega arith) (omega (arith, greatest_dim_lem)) none
+    l.invariant n ∙ none_more greatest_dim p l.place (λ k. is_member k c.args.set) c.args.mask n (omega arith) (omega (arith, greatest_dim_lem)) none
 
 -- once all places are done, the bases are those of the subcubes whose nodes all pass
 covers-all : (test : ℕ → Bool) (mask n : ℕ) → covers greatest_dim 0 test mask n ≡ (is_base mask n && are_all_nodes test (ones_of greatest_dim mask) (subcube mask n))
@@ -71,4 +71,4 @@ returns c = λ n.
     let all : greatest_dim - 0 ≡ greatest_dim = omega arith in
     let whole : c.args.mask / 1 ≡ c.args.mask = omega arith in
     let at_end = rw (done, all, whole) at (l.invariant n) in
-    at_end ∙ covers-all (has_bit c.args.set) c.args.mask n
+    at_end ∙ covers-all (λ k. is_member k c.args.set) c.args.mask n

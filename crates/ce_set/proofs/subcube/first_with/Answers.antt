@@ -6,7 +6,7 @@ use Rattle.std.proofs.lemmas.Bool.{and_parts}
 use Rattle.ce_model.specs.Limits.{greatest_dim}
 use Rattle.ce_model.specs.Subcubes.{has_node, ones_of, is_base, are_all_nodes, subcube, deposit}
 use Rattle.ce_model.proofs.Subcubes.{find-none, find-first, all_nodes-at}
-use Rattle.ce_set.proofs.WordBits.{below-has_bit}
+use Rattle.ce_set.proofs.WordBits.{below-is_member}
 use Rattle.ce_set.proofs.subcube.first_with.Goals as goal
 
 pub returns-then-bases-eq0 : goal.returns-then-bases-eq0
@@ -30,7 +30,7 @@ returns c = λ dim within.
     let same : 0 + base ≡ base = omega arith in
     let found : both base ≡ true = sym (c.bases_within-bases.ensures base) ∙ ap (λ x. x == 1) lowest.1 in
     let free_there = all_nodes-at (has_node c.args.free_nodes) (ones_of greatest_dim mask) (subcube mask base) 0 (and_parts (is_base mask base) (test (subcube mask base)) found).1 (pow_pos (ones_of greatest_dim mask)) in
-    let below : base + deposit 0 mask < 2 ^ dim = below-has_bit c.args.free_nodes.0 (2 ^ dim) (base + deposit 0 mask) within free_there in
+    let below : base + deposit 0 mask < 2 ^ dim = below-is_member c.args.free_nodes.0 (2 ^ dim) (base + deposit 0 mask) within free_there in
     let first = find-first test (subcube mask) (is_base mask) 0 (2 ^ dim) base (omega arith) (ap both same ∙ found) (λ i less.
     let here : 0 + i ≡ i = omega arith in
     ap both here ∙ sym (c.bases_within-bases.ensures i) ∙ ap (λ x. x == 1) (lowest.2 i less)) in

@@ -2,8 +2,8 @@ use Rattle.std.proofs.Common.{◌≡◌, ℕ, ◌+◌, ◌*◌, ◌/◌, ◌%◌
 use Rattle.std.proofs.lemmas.Bool.{cases_lt}
 use Rattle.std.proofs.lemmas.Nat.{one_shl, pow_below}
 use Rattle.ce_model.specs.Limits.{greatest_dim_lem}
-use Rattle.ce_set.specs.Words.{has_bit}
-use Rattle.ce_set.proofs.WordBits.{has_bit-and, has_bit-down, has_bit-above, has_bit-clear, clear_masks}
+use Rattle.ce_model.specs.Parcels.{is_member}
+use Rattle.ce_set.proofs.WordBits.{is_member-and, is_member-down, is_member-above, is_member-clear, clear_masks}
 use Rattle.ce_set.proofs.subcube.lower_halves.Goals as goal
 
 shift : (place : ℕ) → place < 6 → 1 * 2 ^ place % 4294967296 ≡ 2 ^ place
@@ -33,18 +33,18 @@ turned false false false = refl
 
 -- the bit of the three words together
 together : (set place n : ℕ) → set < 2 ^ 64 → place < 6
-    → has_bit (bit_and (bit_and set (set / 2 ^ (2 ^ place))) (get_or clear_masks place 0)) n
-    ≡ (n / 2 ^ place % 2 == 0 && has_bit set n && has_bit set (n + 2 ^ place))
+    → is_member n (bit_and (bit_and set (set / 2 ^ (2 ^ place))) (get_or clear_masks place 0))
+    ≡ (n / 2 ^ place % 2 == 0 && is_member n set && is_member (n + 2 ^ place) set)
 together set place n fits below =
-    let both = has_bit-and (bit_and set (set / 2 ^ (2 ^ place))) (get_or clear_masks place 0) n
-    ∙ ap (λ (t : Bool). t && has_bit (get_or clear_masks place 0) n) (has_bit-and set (set / 2 ^ (2 ^ place)) n ∙ ap (λ (t : Bool). has_bit set n && t) (has_bit-down set (2 ^ place) n)) in
+    let both = is_member-and (bit_and set (set / 2 ^ (2 ^ place))) (get_or clear_masks place 0) n
+    ∙ ap (λ (t : Bool). t && is_member n (get_or clear_masks place 0)) (is_member-and set (set / 2 ^ (2 ^ place)) n ∙ ap (λ (t : Bool). is_member n set && t) (is_member-down set (2 ^ place) n)) in
     elim (cases_lt n 64) [
       | inl within ↦
-          both ∙ ap (λ (t : Bool). has_bit set n && has_bit set (n + 2 ^ place) && t) (has_bit-clear place n below within)
-          ∙ turned (has_bit set n) (has_bit set (n + 2 ^ place)) (n / 2 ^ place % 2 == 0)
+          both ∙ ap (λ (t : Bool). is_member n set && is_member (n + 2 ^ place) set && t) (is_member-clear place n below within)
+          ∙ turned (is_member n set) (is_member (n + 2 ^ place) set) (n / 2 ^ place % 2 == 0)
       | inr past ↦
-          let gone : has_bit set n ≡ false = has_bit-above set 64 n fits past in
-          both ∙ rw gone (sym (both_fail (n / 2 ^ place % 2 == 0) (has_bit set (n + 2 ^ place))))
+          let gone : is_member n set ≡ false = is_member-above set 64 n fits past in
+          both ∙ rw gone (sym (both_fail (n / 2 ^ place % 2 == 0) (is_member (n + 2 ^ place) set)))
     ]
   where
     both_fail : (a b : Bool) → (a && false && b) ≡ false

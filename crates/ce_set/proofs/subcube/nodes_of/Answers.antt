@@ -5,11 +5,11 @@ use Rattle.std.proofs.lemmas.Nat.{one_shl, pow_below}
 use Rattle.std.proofs.lemmas.Nat.Bits.{bit_at-pow_same, bit_at-pow_other}
 use Rattle.ce_model.specs.declared.topology.Subcube.{Subcube}
 use Rattle.ce_model.specs.Limits.{greatest_dim, greatest_dim_lem}
+use Rattle.ce_model.specs.Parcels.{is_member}
 use Rattle.ce_model.specs.Subcubes.{extract, deposit, deposited_bits, is_inside, node_of}
 use Rattle.ce_model.proofs.Subcubes.{extract-below, node_of-extract, is_inside-node_of, is_inside-within}
-use Rattle.ce_set.specs.Words.{has_bit}
 use Rattle.ce_set.proofs.Steps.{even_where_clear, odd_where_set}
-use Rattle.ce_set.proofs.WordBits.{same_test, has_bit-or, has_bit-up, has_bit-above}
+use Rattle.ce_set.proofs.WordBits.{same_test, is_member-or, is_member-up, is_member-above}
 use Rattle.ce_set.proofs.Covers.{reaches, reaches-one, reaches-none, half_shifted, placed-reached, reaches-placed}
 use Rattle.ce_set.proofs.subcube.nodes_of.Goals as goal
 
@@ -54,8 +54,8 @@ loop-place-preserved-then-sub-place-eq1 c = λ n below.
     let p = l.place - 1 in
     let one = odd_where_set (sub.mask / 2 ^ p) c.if-sub-place-eq1.true in
     let shift : 1 * 2 ^ p % 4294967296 ≡ 2 ^ p = one_shl p 32 (omega arith) in
-    let moved : has_bit (bit_or l.nodes (l.nodes * 2 ^ (2 ^ p) % 18446744073709551616)) n ≡ (has_bit l.nodes n || (nat_le (2 ^ p) n && has_bit l.nodes (n - 2 ^ p))) =
-    has_bit-or l.nodes (l.nodes * 2 ^ (2 ^ p) % 18446744073709551616) n ∙ ap (λ (t : Bool). has_bit l.nodes n || t) (has_bit-up l.nodes (2 ^ p) n below) in
+    let moved : is_member n (bit_or l.nodes (l.nodes * 2 ^ (2 ^ p) % 18446744073709551616)) ≡ (is_member n l.nodes || (nat_le (2 ^ p) n && is_member (n - 2 ^ p) l.nodes)) =
+    is_member-or l.nodes (l.nodes * 2 ^ (2 ^ p) % 18446744073709551616) n ∙ ap (λ (t : Bool). is_member n l.nodes || t) (is_member-up l.nodes (2 ^ p) n below) in
     rw shift
     (moved
     ∙ rw (l.invariant n below, l.invariant (n - 2 ^ p) (omega arith)) (one_more greatest_dim p l.place sub.mask sub.base n (omega arith) (omega (arith, greatest_dim_lem)) one))
@@ -96,7 +96,7 @@ returns c = λ n.
           let at_end = rw (done, all, whole) at (l.invariant n below) in
           at_end ∙ reaches-all sub n apart
       | inr past ↦
-          has_bit-above l.nodes 64 n l.auto.nodes-fits.fits past
+          is_member-above l.nodes 64 n l.auto.nodes-fits.fits past
           ∙ sym (false_from_ne_true (is_inside sub n) (λ inside.
           absurd (omega (arith, is_inside-within greatest_dim n sub c.requires.base_within c.requires.mask_within apart inside, ap (λ k. 2 ^ k) greatest_dim_lem))))
     ]

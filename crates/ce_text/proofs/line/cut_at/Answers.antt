@@ -6,4 +6,4 @@ pub returns-in-None-clause-parts : goal.returns-in-None-clause-parts
 returns-in-None-clause-parts c = sym (cut_at_place _ c.args.bytes.now None c.in-None.ensures)
 
 pub returns-in-Some-clause-parts : goal.returns-in-Some-clause-parts
-returns-in-Some-clause-parts c = sym (cut_at_place _ c.args.bytes.now (Some c.in-Some.place) c.in-Some.ensures)
+returns-in-Some-clause-parts c = sym (cut_at_place _ c.args.bytes.now (Some c.in-Some.index) c.in-Some.ensures)

@@ -1,6 +1,6 @@
 use Rattle.std.proofs.Common.{sym, ◌∙◌, arith}
 use Rattle.ce_model.specs.Limits.{process_count_lem}
-use Rattle.rk_rows.proofs.Answers.{unborn-is, born-is}
+use Rattle.ce_solo.proofs.Hears.{unborn-is, born-is}
 use Rattle.rk_rows.proofs.desk.hearing_of_item.Goals as goal
 
 pub status-requires : goal.status-requires

@@ -1,6 +1,5 @@
 use Rattle.std.proofs.Common.{◌≡◌, ℕ, ◌+◌, ◌-◌, List, [], length, get_or, sym, ap, ◌∙◌, subst, arith}
 use Rattle.std.proofs.lemmas.List.{length_push}
-use Rattle.ce_lock.specs.Meanings.{meanings}
 use Rattle.ce_lock.specs.Sitting.{SeatFacts, IsNewHead}
 use Rattle.ce_lock.specs.Telling.{fresh_head}
 use Rattle.ce_lock.proofs.Endings.{new_head, heads_grow}
@@ -41,9 +40,9 @@ returns-clause-count g c = let i = c.loop-family.invariant in let e = ap length 
     omega (arith, e, c.loop-family-test.false, c.loop-family.auto.family-end, c.requires.families.0)
 
 pub returns-clause-heads : goal.returns-clause-heads
-returns-clause-heads g c k d low = let i = c.loop-family.invariant in let K = g.O.Kept in
-    subst (λ (l : List (SeatFacts g.row.O.Denot g.row.O-Entry.Denot)). IsNewHead (meanings K.fixed K.history K.lawful K.whose K.alone_entry) c.args.self.now k (get_or l k d)) (sym c.push_reserved-2.ensures.items)
-    (heads_grow (meanings K.fixed K.history K.lawful K.whose K.alone_entry) c.args.self.now c.loop-family.heads.items c.loop-family.family c.of_head-2.result i.count i.heads
-    (subst (IsNewHead (meanings K.fixed K.history K.lawful K.whose K.alone_entry) c.args.self.now c.loop-family.family) (sym c.of_head-2.ensures)
-    (new_head (meanings K.fixed K.history K.lawful K.whose K.alone_entry) c.args.self.now c.loop-family.family (c.loop-family.family + 1) c.loop-family.maker.table_id c.loop-family.maker.me.0 i.chair
+returns-clause-heads g c k d low = let i = c.loop-family.invariant in
+    subst (λ (l : List (SeatFacts g.row.O.Denot g.row.O-Entry.Denot)). IsNewHead c.args.self.now k (get_or l k d)) (sym c.push_reserved-2.ensures.items)
+    (heads_grow c.args.self.now c.loop-family.heads.items c.loop-family.family c.of_head-2.result i.count i.heads
+    (subst (λ (s : SeatFacts g.row.O.Denot g.row.O-Entry.Denot). IsNewHead c.args.self.now c.loop-family.family s) (sym c.of_head-2.ensures)
+    (new_head c.args.self.now c.loop-family.family (c.loop-family.family + 1) c.loop-family.maker.table_id c.loop-family.maker.me.0 i.chair
     (ap (λ me. me.0) i.view))) k d (omega (arith, c.loop-family-test.false, c.loop-family.auto.family-end, c.requires.families.0)))

@@ -1,5 +1,4 @@
 use Rattle.std.proofs.Common.{◌≡◌, ℕ, ◌+◌, ◌<◌, ◌≤◌, [], length, get_or, vec_capacity, vec_len}
-use Rattle.ce_lock.specs.Meanings.{meanings}
 use Rattle.ce_lock.specs.Telling.{fresh_head}
 use Rattle.ce_lock.specs.Sitting.{SeatFacts, IsNewHead}
 use Rattle.ce_lock.proofs.book.Book.seat_heads.Given as goal
@@ -11,5 +10,5 @@ invariant-loop-family g l = record {
   count : length l.heads.items ≡ l.family;
   len : vec_len l.heads ≡ l.family;
   room : l.fn.families ≤ vec_capacity l.heads;
-  heads : (k : ℕ) (d : SeatFacts g.row.O.Denot g.row.O-Entry.Denot) → k < l.family → IsNewHead (meanings g.O.Kept.fixed g.O.Kept.history g.O.Kept.lawful g.O.Kept.whose g.O.Kept.alone_entry) l.self k (get_or l.heads.items k d);
+  heads : (k : ℕ) (d : SeatFacts g.row.O.Denot g.row.O-Entry.Denot) → k < l.family → IsNewHead l.self k (get_or l.heads.items k d);
 }

@@ -19,4 +19,4 @@ returns c =
     let home = c.rehome.ensures.home grant
     (subst (λ boxes. HasAllBlocks grant boxes c.args.crew.host c.args.drained_blocks.items) (sym c.as_mut_slice.ensures.value) c.requires) in
     subst (λ boxes. AreAllHome grant boxes c.rehome.new.host)
-    (sym (take_at c.rehome.new.nodes _ c.args.crew.nodes.len (home.0.all ∙ sym c.requires.all ∙ sym c.args.crew.nodes.ok.0))) home
+    (sym (take_at c.rehome.new.boxes _ c.args.crew.boxes.len (home.0.all ∙ sym c.requires.all ∙ sym c.args.crew.boxes.ok.0))) home

@@ -7,7 +7,7 @@ ask-requires-clause-fits c = peek-fits c.args.machine.now c.args.user c.requires
 
 pub unreachable-requires : goal.unreachable-requires
 unreachable-requires c =
-    c.in_default.not-Peeked _ (peek-reply c.args.machine.now c.ask.new.machine c.args.user c.requires.user c.in_ok-found.field-0 c.in_ok-found.ensures)
+    c.in_default.not-Peeked _ (peek-reply c.args.machine.now c.ask.new.machine c.args.user c.requires.user c.in_ok-peek_result.field-0 c.in_ok-peek_result.ensures)
 
 pub returns : goal.returns
-returns c = peek-done c.args.machine.now c.ask.new.machine c.args.user c.requires.user c.in_ok-found.field-0 c.in_ok-found.ensures serial c.in-Peeked.found c.in-Peeked.is
+returns c = peek-done c.args.machine.now c.ask.new.machine c.args.user c.requires.user c.in_ok-peek_result.field-0 c.in_ok-peek_result.ensures serial c.in-Peeked.peek_result c.in-Peeked.is

@@ -1,8 +1,8 @@
 use Rattle.std.proofs.Common.{◌≡◌, ◌+◌, ◌≤◌, length}
 use Rattle.std.specs.Prelude.{find}
 use Rattle.ce_script.proofs.BodyLines.{bytes_left}
-use Rattle.ce_script.specs.Lines.{has_bad_byte, rest_size}
-use Rattle.ce_script.specs.ReadLines.{numbered_lines, texts_left, body_lines}
+use Rattle.ce_script.specs.Lines.{numbered_lines, has_bad_byte, rest_size}
+use Rattle.ce_script.specs.ReadLines.{texts_left, body_lines}
 use Rattle.ce_script.proofs.reader.body.bad_byte_line.Given as goal
 
 abbrev pub invariant-loop-rest : goal.invariant-loop-rest

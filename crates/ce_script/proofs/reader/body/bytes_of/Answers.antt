@@ -1,8 +1,8 @@
 use Rattle.std.proofs.Common.{◌∙◌, ◌++◌, sym, ap, arith, Option, ℕ, List, ◌+◌, append_assoc, append-nil, refl}
 use Rattle.std.specs.Prelude.{option_map}
-use Rattle.ce_script.specs.Lines.{Line}
+use Rattle.ce_script.specs.Lines.{Line, numbered_lines}
 use Rattle.ce_script.specs.Bodies.{has_bad_word, body_bytes, located_fault}
-use Rattle.ce_script.specs.ReadLines.{numbered_lines, texts_left, body_lines}
+use Rattle.ce_script.specs.ReadLines.{texts_left, body_lines}
 use Rattle.ce_script.specs.declared.script.ScriptKind.TheVariants.{BadImage}
 use Rattle.ce_script.proofs.BodyFaults.{bad_word}
 use Rattle.ce_script.specs.ReadWords.{word_bytes}

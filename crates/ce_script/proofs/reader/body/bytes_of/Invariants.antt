@@ -2,8 +2,8 @@ use Rattle.std.proofs.Common.{◌≡◌, ◌+◌, ◌≤◌, ◌++◌, length}
 use Rattle.std.specs.Prelude.{find}
 use Rattle.ce_script.proofs.BodyLines.{bytes_left}
 use Rattle.ce_script.specs.Bodies.{has_bad_word, body_bytes}
-use Rattle.ce_script.specs.Lines.{rest_size}
-use Rattle.ce_script.specs.ReadLines.{numbered_lines, texts_left, body_lines}
+use Rattle.ce_script.specs.Lines.{numbered_lines, rest_size}
+use Rattle.ce_script.specs.ReadLines.{texts_left, body_lines}
 use Rattle.ce_script.specs.ReadWords.{word_bytes}
 use Rattle.ce_script.proofs.reader.body.bytes_of.Given as goal
 

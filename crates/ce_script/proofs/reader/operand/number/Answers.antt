@@ -8,5 +8,5 @@ use Rattle.ce_script.proofs.reader.operand.number.Goals as goal
 
 pub returns-in-Some : goal.returns-in-Some
 returns-in-Some c =
-    let found = sym c.in-Some.is ∙ c.number_to.ensures ∙ ap (bounded_number c.args.greatest) c.operand.ensures in
-    number_there BadNumber (operand c.args.place (statement_of_line c.args.line.now)) c.in-Some.number c.args.greatest (omega arith) found
+    let found = sym c.in-Some.is ∙ c.bounded_number.ensures ∙ ap (bounded_number c.args.greatest) c.operand.ensures in
+    number_there BadNumber (operand c.args.index (statement_of_line c.args.line.now)) c.in-Some.number c.args.greatest (omega arith) found

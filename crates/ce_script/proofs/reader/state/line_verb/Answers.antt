@@ -16,24 +16,24 @@ returns-in-None c =
     let found = verb_found (statement_of_line c.args.line.now) c.verb_of.result (c.verb_of.ensures ∙ ap (table_value verbs) c.operand.ensures) in
     no_verb (statement_of_line c.args.line.now) (ap not (sym plain)) (found ∙ c.in-None.is)
 
-pub returns-then-lacks_form : goal.returns-then-lacks_form
-returns-then-lacks_form c =
+pub returns-then-begins_unknown_form : goal.returns-then-begins_unknown_form
+returns-then-begins_unknown_form c =
     let plain = rw c.before_comment.ensures at c.if-not-are_plain.ensures in
     let found = verb_found (statement_of_line c.args.line.now) c.verb_of.result (c.verb_of.ensures ∙ ap (table_value verbs) c.operand.ensures) in
-    no_form (statement_of_line c.args.line.now) c.in-Some.verb (ap not (sym plain)) (found ∙ c.in-Some.is) (sym c.if-lacks_form.ensures)
+    no_form (statement_of_line c.args.line.now) c.in-Some.verb (ap not (sym plain)) (found ∙ c.in-Some.is) (sym c.if-begins_unknown_form.ensures)
 
 pub returns-then-count-operand_count : goal.returns-then-count-operand_count
 returns-then-count-operand_count c =
     let plain = rw c.before_comment.ensures at c.if-not-are_plain.ensures in
     let found = verb_found (statement_of_line c.args.line.now) c.verb_of.result (c.verb_of.ensures ∙ ap (table_value verbs) c.operand.ensures) in
-    wrong_count (statement_of_line c.args.line.now) c.in-Some.verb (ap not (sym plain)) (found ∙ c.in-Some.is) (sym c.if-lacks_form.ensures)
+    wrong_count (statement_of_line c.args.line.now) c.in-Some.verb (ap not (sym plain)) (found ∙ c.in-Some.is) (sym c.if-begins_unknown_form.ensures)
     (λ same. c.if-count-operand_count.true (c.count.ensures ∙ same ∙ ap (λ n. 1 + n) (sym c.operand_count.ensures)))
 
 pub returns : goal.returns
 returns c =
     let plain = rw c.before_comment.ensures at c.if-not-are_plain.ensures in
     let found = verb_found (statement_of_line c.args.line.now) c.verb_of.result (c.verb_of.ensures ∙ ap (table_value verbs) c.operand.ensures) in (
-      right_words (statement_of_line c.args.line.now) c.in-Some.verb (ap not (sym plain)) (found ∙ c.in-Some.is) (sym c.if-lacks_form.ensures)
+      right_words (statement_of_line c.args.line.now) c.in-Some.verb (ap not (sym plain)) (found ∙ c.in-Some.is) (sym c.if-begins_unknown_form.ensures)
           (sym c.count.ensures ∙ c.if-count-operand_count.false ∙ ap (λ n. 1 + n) c.operand_count.ensures),
       found ∙ c.in-Some.is,
     )

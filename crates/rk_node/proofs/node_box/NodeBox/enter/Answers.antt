@@ -18,5 +18,5 @@ invariant_of-self c =
 
 pub returns : goal.returns
 returns c =
-    ap (λ (b : Box). record b { node = record b.node { number = c.args.relative; dim = c.args.dim; images = c.args.images } }) c.self.view_is
-    ∙ ap (λ n. record c.args.self.now { node = record n { number = c.args.relative; dim = c.args.dim; images = c.args.images } }) c.requires.clean.node
+    ap (λ (b : Box). record b { node = record b.node { number = c.args.number; dim = c.args.dim; images = c.args.images } }) c.self.view_is
+    ∙ ap (λ n. record c.args.self.now { node = record n { number = c.args.number; dim = c.args.dim; images = c.args.images } }) c.requires.clean.node

@@ -14,8 +14,8 @@ returns-in_ok-send-in-Send c =
     call-answers c.args.images.now c.args.node.now (call_of_say (Send c.in-Send.pid c.in-Send.batch)) before c.send.new.self.mailbox.items
     (Posted c.in_ok-send-in-Send.field-0) can (ap Posted c.in_ok-send-in-Send.ensures.emptied) tt refl c.in_ok-send-in-Send.ensures.queued
 
-pub returns-in_ok-spawn-in-Spawn : goal.returns-in_ok-spawn-in-Spawn
-returns-in_ok-spawn-in-Spawn c =
+pub returns-in_ok-write_spawn-in-Spawn : goal.returns-in_ok-write_spawn-in-Spawn
+returns-in_ok-write_spawn-in-Spawn c =
     let images = c.args.images.now in
     let node = c.args.node.now in
     let before = c.args.self.now.mailbox.items in
@@ -25,8 +25,8 @@ returns-in_ok-spawn-in-Spawn c =
     subst (λ hearing. IsAnsweredAlone images node hearing after) (sym c.spawn_hearing.ensures)
     (spawn-answers images node c.in-Spawn.pid c.in-Spawn.image c.in-Spawn.to before after c.in_ok-is_fresh-in-Spawn.is_fresh can c.in_ok-is_fresh-in-Spawn.ensures)
 
-pub returns-in_ok-kill-in-Kill : goal.returns-in_ok-kill-in-Kill
-returns-in_ok-kill-in-Kill c =
+pub returns-in_ok-write_kill-in-Kill : goal.returns-in_ok-write_kill-in-Kill
+returns-in_ok-write_kill-in-Kill c =
     let images = c.args.images.now in
     let node = c.args.node.now in
     let before = c.args.self.now.mailbox.items in

@@ -17,8 +17,8 @@ returns c =
     let images = c.args.images.now in
     let node = c.args.node.now in
     let before = c.args.self.now.mailbox.items in
-    let after = c.next.new.self.items in
-    elim c.match-next.branch [
+    let after = c.take_next.new.self.items in
+    elim c.match-take_next.branch [
       | in-Some+in_ok-hearing-in-Some w ↦ (let left = w.in-Some.ensures.rest in
           let given = w.in_ok-hearing-in-Some in
           subst (λ hearing. IsAnsweredAlone images node hearing after) (sym w.hearing-is)

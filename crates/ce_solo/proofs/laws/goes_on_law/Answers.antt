@@ -1,5 +1,0 @@
-use Rattle.ce_solo.proofs.GoesOn.{goes_on}
-use Rattle.ce_solo.proofs.laws.goes_on_law.Goals as goal
-
-pub returns : goal.returns
-returns c = record { law = goes_on }
