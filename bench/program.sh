@@ -1,6 +1,6 @@
 #!/usr/bin/env bash
-# How long the program takes for the load, for the load's commands as a script, for many cubes, for many notes, and for the
-# greatest machine; beside 40 million instructions of bench/loop.ce, by which the times of two machines can be compared.
+# How long the program takes for the load, for many cubes, for many notes, and for the greatest machine; beside 40 million
+# instructions of bench/loop.ce, by which the times of two machines can be compared.
 here=$(cd "$(dirname "$0")/.." && pwd) || exit 1
 "$here/ce" --serial < "$here/bench/loop.ce" > /dev/null || exit 1
 made=$(mktemp -d) || exit 1

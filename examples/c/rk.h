@@ -18,7 +18,8 @@ static inline unsigned rk_call(unsigned number, unsigned first, unsigned second,
 /* A place of xmsend's list. */
 struct place { unsigned node, pid; };
 
-/* A block of that many bytes, all zero; 0 where len is over 4096 or the node has no block left. */
+/* A block of that many bytes, all zero; 0 where len is over 4096, the node has no block left, or all windows of the
+   process were used. */
 static inline void *xmalloc(unsigned len) { return (void *)rk_call(1, len, 0, 0); }
 /* Gives the block back to the node. */
 static inline void xfree(void *block) { rk_call(2, (unsigned)block, 0, 0); }
