@@ -6,7 +6,7 @@ ghost use Rattle.ce_model.specs.Parcels.{mail, item_parcels};
 ghost use Rattle.ce_model.specs.Trace.{NodeRecord, blank_record};
 ghost use Rattle.ce_model.specs.Answers.{is_quiet_node};
 ghost use Rattle.ce_model.specs.Renaming.{number_outward, place_outward, renamed_targets};
-ghost use Rattle.ce_model.specs.Subcubes.{node_of, relative_number, IsSubcube};
+ghost use Rattle.ce_model.specs.Subcubes.{node_of, IsSubcube};
 ghost use Rattle.rk_mail.specs.Items.{parcel_of};
 ghost use Rattle.rk_mail.specs.Targets.{targets_of};
 ghost use Rattle.ce_machine.specs.Tables.{HostRecord, desk_at};
@@ -18,7 +18,7 @@ use crate::host_desk::HostDesk;
 use crate::order::Order;
 use ce_daemon::Grant;
 use ce_model::{BlockId, HOST, Place, Subcube, What};
-use ce_set::{extract, node_of};
+use ce_set::node_of;
 use rk_mail::{Batch, Hearing, Parcel, kill_hearing, spawn_hearing};
 use xm_block::Block;
 
@@ -211,19 +211,6 @@ pub(crate) fn place_outward(grant: &Grant, to: Place) -> Place
     Place {
         node: node_of(&grant.sub, to.node),
         pid: to.pid,
-    }
-}
-
-// The number by which a cube knows an actor.
-#[tactic(auto, unfolding(ce_model::specs::Subcubes::relative_number))]
-pub(crate) fn relative_number(sub: &Subcube, actor: u32) -> u32
-    requires { sub.now.mask < 2 ^ greatest_dim }
-    ensures { result ≡ relative_number sub.now actor }
-{
-    if actor == HOST {
-        HOST
-    } else {
-        extract(actor, sub.mask)
     }
 }
 

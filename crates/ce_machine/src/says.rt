@@ -5,7 +5,7 @@ ghost use Rattle.ce_model.specs.Limits.{greatest_targets, greatest_history};
 ghost use Rattle.ce_machine.specs.Requests.{IsFittingCall};
 ghost use Rattle.ce_machine.specs.Answering.{HasAnswered};
 
-use crate::desks::{mark_busy, post_all, relative_number};
+use crate::desks::{mark_busy, post_all};
 use crate::give::{is_idle, is_work, offer, result_of_hearing};
 use crate::machine::{add_entry, grant_of, make_room};
 use crate::order::Order;
@@ -13,6 +13,7 @@ use crate::{Call, Machine, Reply};
 use ce_daemon::Homed;
 use ce_lock::Who;
 use ce_model::{BlockId, Bytes, Entry, NoMemory, Place, Targets, What};
+use ce_set::relative_number;
 use rk_mail::{Batch, Hearing, Say};
 use std::alloc::Global;
 

@@ -1,10 +1,10 @@
 ghost use Rattle.std.specs.Prelude.{◌≡◌, ℕ, ◌+◌, ◌/◌, ◌%◌, ◌^◌, ◌<◌, ◌≤◌, ◌==◌, ◌&&◌, find, IsTrue};
 ghost use Rattle.ce_model.specs.Limits.{greatest_dim};
 ghost use Rattle.ce_model.specs.Parcels.{is_member};
-ghost use Rattle.ce_model.specs.Subcubes.{node_of, is_inside, is_base, has_node, ones_of, first_free_subcube, are_all_nodes, subcube, subcubes_with_mask};
+ghost use Rattle.ce_model.specs.Subcubes.{relative_number, node_of, is_inside, is_base, has_node, ones_of, first_free_subcube, are_all_nodes, subcube, subcubes_with_mask};
 
-use crate::deposit;
-use ce_model::{GREATEST_DIMENSION, NodeSet, Subcube};
+use crate::{deposit, extract};
+use ce_model::{GREATEST_DIMENSION, GREATEST_NODES, HOST, NodeSet, Subcube};
 
 /// The node that the subcube has as its relative node `r`. The mask and the base are below
 /// `GREATEST_NODES` and have no bit in common, and r is below 2^d, where the mask has d one bits.
@@ -16,6 +16,18 @@ pub fn node_of(sub: &Subcube, r: u32) -> u32
     ensures { result ≡ node_of sub.now r }
 {
     sub.base + deposit(r, sub.mask)
+}
+
+/// The number by which a cube on the subcube knows a node of the machine; the host keeps its own,
+/// `HOST`. Of the mask only the bits of the greatest machine's dimensions count.
+pub fn relative_number(sub: &Subcube, node: u32) -> u32
+    ensures { result ≡ relative_number sub.now node }
+{
+    if node == HOST {
+        HOST
+    } else {
+        extract(node, sub.mask % GREATEST_NODES)
+    }
 }
 
 /// The nodes of the subcube. The mask and the base are below `GREATEST_NODES` and have no bit in

@@ -1,5 +1,5 @@
-use crate::{deposit, extract, first_free, node_of, nodes_of};
-use ce_model::{NodeSet, Subcube};
+use crate::{deposit, extract, first_free, node_of, nodes_of, relative_number};
+use ce_model::{HOST, NodeSet, Subcube};
 
 #[test]
 #[tactic(auto, using(ce_model::specs::Limits::greatest_dim_lem, ce_model::specs::Limits::greatest_nodes_lem))]
@@ -70,4 +70,6 @@ fn nodes_of_a_subcube(rt: HostRuntime) {
     let sub = Subcube { mask: 5, base: 2 };
     assert_eq!(rt; nodes_of(&sub), NodeSet(204));
     assert_eq!(rt; node_of(&sub, 2), 6);
+    assert_eq!(rt; relative_number(&sub, 6), 2);
+    assert_eq!(rt; relative_number(&sub, HOST), HOST);
 }

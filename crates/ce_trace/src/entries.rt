@@ -7,7 +7,7 @@ ghost use Rattle.ce_script.specs.EntryText.{actor_words, entry_line, found_text,
 ghost use Rattle.ce_trace.specs.Spaced.{spaced_words};
 
 use crate::digits::{push_data, push_number, push_some_number, push_with_number};
-use crate::inward::{block_inward, place_inward, relative_number};
+use crate::inward::{block_inward, place_inward};
 use crate::names::image_name;
 use crate::places::{push_block, push_place};
 use crate::words::{push, push_line_feed, push_word};
@@ -15,6 +15,7 @@ use ce_model::{
     BlockId, Bytes, Entry, HOST, KillResult, LookResult, Place, Subcube, TakeResult, What,
 };
 use ce_script::Script;
+use ce_set::relative_number;
 use std::alloc::AllocError;
 
 /// The line of an entry of the machine in the trace of a cube: the cube's numbers stand in it.
@@ -27,7 +28,7 @@ pub(crate) fn push_entry(
     ensures { OnOk result (text.new.items
         ≡ text.old.items ++ entry_line script.now (entry_inward sub entry.now)) }
 {
-    push_actor(text, relative_number(sub, entry.actor))?;
+    push_actor(text, relative_number(&sub, entry.actor))?;
     push_what(text, script, sub, &entry.what)?;
     push_line_feed(text)
 }

@@ -1,32 +1,17 @@
 //! The numbers of the machine as a cube knows them.
 ghost use Rattle.std.specs.Prelude.{◌≡◌, IfOk};
-ghost use Rattle.ce_model.specs.Subcubes.{relative_number};
 ghost use Rattle.ce_model.specs.Renaming.{block_inward, entry_inward, place_inward, renamed_targets, renamed_what};
 
-use ce_model::{
-    BlockId, Bytes, Entry, GREATEST_NODES, HOST, HOST_HOME, NoMemory, Place, Subcube, Targets, What,
-};
-use ce_set::extract;
+use ce_model::{BlockId, Bytes, Entry, HOST_HOME, NoMemory, Place, Subcube, Targets, What};
+use ce_set::relative_number;
 use std::alloc::Global;
-
-/// The number by which the cube knows a node; the host keeps its number.
-pub(crate) fn relative_number(sub: Subcube, node: u32) -> u32
-    ensures { result ≡ relative_number sub node }
-{
-    if node == HOST {
-        HOST
-    } else {
-        // A mask says nothing beyond the dimensions of the greatest machine.
-        extract(node, sub.mask % GREATEST_NODES)
-    }
-}
 
 /// A place, as the cube knows it.
 pub(crate) fn place_inward(sub: Subcube, place: Place) -> Place
     ensures { result ≡ place_inward sub place }
 {
     Place {
-        node: relative_number(sub, place.node),
+        node: relative_number(&sub, place.node),
         pid: place.pid,
     }
 }
@@ -37,7 +22,7 @@ pub(crate) fn block_inward(sub: Subcube, id: BlockId) -> BlockId
     ensures { result ≡ block_inward sub id }
 {
     let home = if id.home < HOST_HOME {
-        relative_number(sub, id.home)
+        relative_number(&sub, id.home)
     } else {
         HOST_HOME
     };
@@ -144,7 +129,7 @@ pub(crate) fn entry_inward(alloc: Global, sub: Subcube, entry: &Entry) -> Result
 {
     Ok(Entry {
         user: entry.user,
-        actor: relative_number(sub, entry.actor),
+        actor: relative_number(&sub, entry.actor),
         what: what_inward(alloc, sub, &entry.what)?,
     })
 }

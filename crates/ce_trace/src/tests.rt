@@ -18,6 +18,7 @@ use rv_image::Image;
 use rv_model::PRIVATE_START;
 use sqlite_items::Items;
 use std::alloc::{AllocError, Global};
+use std::process::Abort;
 use std::test::Fail;
 
 /// The one node of a machine of dimension 0.
@@ -333,59 +334,55 @@ node 0 take 5 250 3 spent
     Ok(())
 }
 
-/// States of processes, a line each.
-fn status_lines(alloc: Global, states: &[Status]) -> Result<Vec<u8>, AllocError> {
+/// The text of a state of a process.
+fn check_status(
+    rt: &impl Abort,
+    alloc: Global,
+    status: Status,
+    expected: &str,
+) -> Result<(), Fail> {
     let mut text = Vec::new(alloc);
-    for status in states {
-        push_status(&mut text, *status)?;
-        push_line_feed(&mut text)?;
-    }
-    Ok(text)
+    push_status(&mut text, status)?;
+    assert_eq!(rt; text.as_slice(), expected.as_bytes());
+    Ok(())
 }
 
 #[test]
-fn the_texts_of_states_and_causes(rt: HostRuntime) -> Result<(), Fail> {
-    let states = [
-        Status::Unborn,
-        Status::Running,
-        Status::Asking,
-        Status::Polling,
-        Status::Stopped(Stop::Exited(42)),
-        Status::Stopped(Stop::Killed),
-        Status::Stopped(Stop::Illegal(PRIVATE_START, 0xFEDC_BA98)),
-        Status::Stopped(Stop::Fetch(0xFFFF_FFFE)),
-        Status::Stopped(Stop::Target(4)),
-        Status::Stopped(Stop::Misaligned(5)),
-        Status::Stopped(Stop::Unmapped(6)),
-        Status::Stopped(Stop::Gone(7)),
-        Status::Stopped(Stop::PastEnd(8)),
-        Status::Stopped(Stop::NotABlock(9)),
-        Status::Stopped(Stop::Break(16)),
-        Status::Stopped(Stop::NoCall(99)),
-        Status::Stopped(Stop::TurnSpent),
-        Status::Stopped(Stop::WindowsSpent),
-    ];
-    let text = status_lines(rt.alloc(), &states)?;
-    let expected = "unborn
-running
-asking
-polling
-stopped exited 42
-stopped killed
-stopped illegal 0x00010000 0xfedcba98
-stopped fetch 0xfffffffe
-stopped target 0x00000004
-stopped misaligned 0x00000005
-stopped unmapped 0x00000006
-stopped gone 0x00000007
-stopped past end 0x00000008
-stopped not a block 0x00000009
-stopped break 0x00000010
-stopped no call 99
-stopped turn spent
-stopped windows spent
-";
-    assert_eq!(rt; text.as_slice(), expected.as_bytes());
+fn the_texts_of_states(rt: HostRuntime) -> Result<(), Fail> {
+    for (status, expected) in [
+        (Status::Unborn, "unborn"),
+        (Status::Running, "running"),
+        (Status::Asking, "asking"),
+        (Status::Polling, "polling"),
+    ] {
+        check_status(&rt, rt.alloc(), status, expected)?;
+    }
+    Ok(())
+}
+
+#[test]
+fn the_texts_of_causes(rt: HostRuntime) -> Result<(), Fail> {
+    for (cause, expected) in [
+        (Stop::Exited(42), "stopped exited 42"),
+        (Stop::Killed, "stopped killed"),
+        (
+            Stop::Illegal(PRIVATE_START, 0xFEDC_BA98),
+            "stopped illegal 0x00010000 0xfedcba98",
+        ),
+        (Stop::Fetch(0xFFFF_FFFE), "stopped fetch 0xfffffffe"),
+        (Stop::Target(4), "stopped target 0x00000004"),
+        (Stop::Misaligned(5), "stopped misaligned 0x00000005"),
+        (Stop::Unmapped(6), "stopped unmapped 0x00000006"),
+        (Stop::Gone(7), "stopped gone 0x00000007"),
+        (Stop::PastEnd(8), "stopped past end 0x00000008"),
+        (Stop::NotABlock(9), "stopped not a block 0x00000009"),
+        (Stop::Break(16), "stopped break 0x00000010"),
+        (Stop::NoCall(99), "stopped no call 99"),
+        (Stop::TurnSpent, "stopped turn spent"),
+        (Stop::WindowsSpent, "stopped windows spent"),
+    ] {
+        check_status(&rt, rt.alloc(), Status::Stopped(cause), expected)?;
+    }
     Ok(())
 }
 

@@ -9,9 +9,6 @@ use Rattle.ce_machine.proofs.machine.Machine.send.Goals as goal
 pub grant_of-grant-requires : goal.grant_of-grant-requires
 grant_of-grant-requires g c = let m = sound_machine c.self.invariant c.in-Ok.ensures.short in caller-grant m (sending m _ (fits-inside c.self.view_is c.requires))
 
-pub relative_number-requires : goal.relative_number-requires
-relative_number-requires g c = let m = sound_machine c.self.invariant c.in-Ok.ensures.short in (caller-desks m (sending m _ (fits-inside c.self.view_is c.requires)) c.grant_of-grant.ensures).sub_is.mask_within
-
 pub add_parcels-first-requires : goal.add_parcels-first-requires
 add_parcels-first-requires g c =
     omega (arith, c.count.ensures.value, send-number (sound_machine c.self.invariant c.in-Ok.ensures.short) _ (fits-inside c.self.view_is c.requires) c.in-Ok.ensures.equal c.in-Ok.ensures.few c.index_mut-host.ensures.value)

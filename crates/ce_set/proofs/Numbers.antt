@@ -1,4 +1,4 @@
--- The bits of a mask that count.
+-- The numbers by which a cube knows its nodes: of a mask only some bits count.
 use Rattle.std.proofs.Common.{◌≡◌, ℕ, zero, suc, ◌+◌, ◌/◌, ◌%◌, ◌^◌, refl, ap, ◌∙◌, arith}
 use Rattle.ce_model.specs.Limits.{greatest_dim}
 use Rattle.std.proofs.lemmas.Bool.{ne_eqb}
