@@ -18,9 +18,10 @@ use Rattle.rk_node.specs.Boxes.{Box, fresh_node_at}
 use Rattle.rk_node.specs.declared.awaited_call.AwaitedCall.TheVariants.{Nothing}
 use Rattle.ce_machine.specs.Meanings.{MachineFacts}
 use Rattle.ce_script.specs.Rounds.{has_work, IsTurn, RoundKind, serial}
+use Rattle.ce_script.specs.Moments.{AreCallsOfUser}
 use Rattle.ce_cube.specs.Boxes.{IsHeldAs, IsInStep}
 use Rattle.ce_cube.specs.Rounds.{IsPartOfRound}
-use Rattle.ce_cube.specs.Crews.{HasStopped, IsLawfulMachine, IsReadyBox, AreBoxesInStep, IsHostInStep, IsCrewInStep, HasCrewGoneOn, AreCallsOf, box_at, CrewFacts, HasMadeSerialRound, cube_dispatches_left}
+use Rattle.ce_cube.specs.Crews.{HasStopped, IsLawfulMachine, IsReadyBox, AreBoxesInStep, IsHostInStep, IsCrewInStep, HasCrewGoneOn, box_at, CrewFacts, HasMadeSerialRound, cube_dispatches_left}
 use Rattle.ce_daemon.specs.Peeks.{cube_grant}
 use Rattle.ce_cube.specs.Exchanges.{HasNode, IsTurnUnderWay, HasTakenTurn, IsRoundUnderWay, machine_node}
 use Rattle.ce_cube.specs.Beside.{IsMix}
@@ -238,7 +239,7 @@ gone-both kind m now now' crew crew' crew'' made turn on next =
           (subst (λ (g : Grant). IsMix kind g.user next.all_entries turn) on.grant next.mix);
       lawful = next.lawful;
       calls = all-append (λ (entry : Entry). (entry.user ≡ crew.grant.user) × IsTrue (is_some (recorded_call entry.what))) made turn on.calls
-          (subst (λ (g : Grant). AreCallsOf g.user turn) on.grant next.calls);
+          (subst (λ (g : Grant). AreCallsOfUser g.user turn) on.grant next.calls);
       grant = next.grant ∙ on.grant;
       trace = subst (λ (g : Grant). view now'.history g.number ≡ view now.history g.number ++ map (entry_inward g.sub) turn) on.grant next.trace
           ∙ ap (λ t. t ++ map inner turn) on.trace ∙ append_assoc (view m.history crew.grant.number) (map inner made) (map inner turn)
@@ -274,7 +275,7 @@ stopped-round m now now' crew crew' r work way stopped = record {
   history = stopped.history ∙ ap (λ h. h ++ stopped.new_entries) (serial-history m now crew crew' way.new_entries way.goes_on) ∙ append_assoc m.history way.new_entries stopped.new_entries;
   lawful = stopped.lawful;
   calls = all-append (λ (entry : Entry). (entry.user ≡ crew.grant.user) × IsTrue (is_some (recorded_call entry.what))) way.new_entries stopped.new_entries way.goes_on.calls
-      (subst (λ (g : Grant). AreCallsOf g.user stopped.new_entries) way.goes_on.grant stopped.calls);
+      (subst (λ (g : Grant). AreCallsOfUser g.user stopped.new_entries) way.goes_on.grant stopped.calls);
 }
 
 pub round-stops : (m now : MachineFacts) (crew crew' : CrewFacts) (work : Bool) → IsRoundUnderWay m now crew crew' (2 ^ crew.grant.dim) work

@@ -19,11 +19,10 @@ use Rattle.ce_lock.specs.Entries.{is_of, entries_of, IsForeignEntry}
 use Rattle.ce_lock.proofs.Histories.{between, own_append, own_none, not_of, of_actor}
 use Rattle.ce_machine.specs.Meanings.{whose, is_alone_entry}
 use Rattle.ce_machine.specs.Keeping.{alone-answered}
-use Rattle.ce_script.specs.Moments.{own_entries}
+use Rattle.ce_script.specs.Moments.{own_entries, AreCallsOfUser}
 use Rattle.ce_script.specs.Rounds.{RoundKind, serial, threaded}
 use Rattle.ce_solo.proofs.Lists.{all-append, all-weaker, filter-kept}
 use Rattle.ce_solo.proofs.Projection.Numbers.{IsPlaced, IsNumber, out_node, out_test, in_out}
-use Rattle.ce_cube.specs.Crews.{AreCallsOf}
 use Rattle.ce_cube.specs.Beside.{actor_entries, AreNotMadeAlone, IsByHostOrNode, IsAllowedAmong, IsMix}
 
 -- ---- fronts
@@ -87,7 +86,7 @@ actor-filtered user actor entries = as_filter entries ∙ filter-both (λ entry.
     as_filter (entry ∷ entries) = ap (λ rest. if entry.user == user && entry.actor == actor then entry ∷ rest else rest) (as_filter entries)
 
 -- where a user's entries all are calls of its cube, they are what the cube's trace has of them
-pub calls-made : (grant : CubeGrant) (more made : List Entry) → own_entries grant.user more ≡ made → AreCallsOf grant.user made
+pub calls-made : (grant : CubeGrant) (more made : List Entry) → own_entries grant.user more ≡ made → AreCallsOfUser grant.user made
     → cube_entries grant more ≡ map (entry_inward grant.sub) made
 calls-made grant more made own calls =
     let is_call = λ (entry : Entry). is_some (recorded_call entry.what) in
@@ -113,7 +112,7 @@ mix-own kind user made own = record {
     among serial own = own
     among threaded own = all-weaker (λ (entry : Entry). entry.user ≡ user) (IsAllowedAmong threaded user) made (λ entry same. tt) own
 
-pub mix-calls : (kind : RoundKind) (user : ℕ) (made : List Entry) → AreCallsOf user made → IsMix kind user made made
+pub mix-calls : (kind : RoundKind) (user : ℕ) (made : List Entry) → AreCallsOfUser user made → IsMix kind user made made
 mix-calls kind user made calls =
     mix-own kind user made
     (all-weaker (λ (entry : Entry). (entry.user ≡ user) × IsTrue (is_some (recorded_call entry.what))) (λ (entry : Entry). entry.user ≡ user) made

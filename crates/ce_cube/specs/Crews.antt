@@ -1,7 +1,6 @@
 -- The crew of a cube that is held: the boxes of its nodes and the host of its user, in step with
 -- the machine's history.
 use Rattle.std.specs.Prelude.{◌≡◌, ℕ, ◌+◌, ◌^◌, ◌<◌, ◌≤◌, Bool, if◌then◌else◌, List, [], ◌++◌, length, map, flat_map, slice_index_or, Some}
-use Rattle.std.specs.List.{AllByRecursion}
 use Rattle.ce_model.specs.declared.entry.Entry.{Entry}
 use Rattle.ce_model.specs.Limits.{greatest_dim, host_home, greatest_blocks}
 use Rattle.ce_model.specs.Blocks.{Block, blocks_of_home}
@@ -20,7 +19,7 @@ use Rattle.rk_node.specs.Boxes.{Box, IsCleanBox, IsIdleBox, fresh_node_at, home_
 use Rattle.rk_node.specs.declared.awaited_call.AwaitedCall.TheVariants.{Nothing}
 use Rattle.ce_machine.specs.Meanings.{MachineFacts}
 use Rattle.ce_script.specs.Rounds.{RoundKind, serial, IsRound, has_work}
-use Rattle.ce_script.specs.Moments.{IsCallOfUser}
+use Rattle.ce_script.specs.Moments.{AreCallsOfUser}
 use Rattle.ce_cube.specs.declared.crew.SerialCrew.{SerialCrew}
 use Rattle.ce_cube.specs.Boxes.{IsHeldAs, AreInStep, trace_store}
 use Rattle.ce_cube.specs.Rehoming.{AreAllBlocks}
@@ -91,10 +90,6 @@ pub record IsCrewInStep (parts : MachineParts) (history : List Entry)
   pub host : IsHostInStep parts history crew.grant crew.host
   pub entries : crew.entries ≡ length (view history crew.grant.number)
 
--- these entries are calls of this user's cube
-abbrev pub AreCallsOf : ℕ → List Entry → Type 0
-AreCallsOf user new_entries = AllByRecursion (IsCallOfUser user) new_entries
-
 -- Calls of a crew's cube went on with the machine's history: these are its user's entries of that
 -- stretch, and make the cube's trace longer. On one thread they are the whole stretch. The crew is
 -- in step again.
@@ -105,7 +100,7 @@ pub record HasCrewGoneOn (kind : RoundKind) (old_machine new_machine : MachineFa
   pub history : new_machine.history ≡ old_machine.history ++ all_entries
   pub mix : IsMix kind crew.grant.user all_entries new_entries
   pub lawful : IsLawful new_machine.parts new_machine.history
-  pub calls : AreCallsOf crew.grant.user new_entries
+  pub calls : AreCallsOfUser crew.grant.user new_entries
   pub grant : crew'.grant ≡ crew.grant
   pub trace : view new_machine.history crew.grant.number
       ≡ view old_machine.history crew.grant.number ++ map (entry_inward crew.grant.sub) new_entries
@@ -118,7 +113,7 @@ pub record HasStopped (old_machine new_machine : MachineFacts) (user : ℕ) : Ty
   pub parts : new_machine.parts ≡ old_machine.parts
   pub history : new_machine.history ≡ old_machine.history ++ new_entries
   pub lawful : IsLawful new_machine.parts new_machine.history
-  pub calls : AreCallsOf user new_entries
+  pub calls : AreCallsOfUser user new_entries
 
 -- A round of this kind went on, by which a node was given work or none was. The host is what it
 -- was.

@@ -9,8 +9,8 @@ use Rattle.rk_node.specs.Boxes.{Box}
 use Rattle.ce_lock.specs.declared.limits.TheConstants.{HISTORY_LIMIT}
 use Rattle.ce_machine.specs.Meanings.{MachineFacts}
 use Rattle.ce_script.specs.Rounds.{IsTurn, has_work}
+use Rattle.ce_script.specs.Moments.{AreCallsOfUser}
 use Rattle.ce_cube.specs.Beside.{actor_entries, AreNotMadeAlone}
-use Rattle.ce_cube.specs.Crews.{AreCallsOf}
 use Rattle.ce_cube.specs.Exchanges.{HasNode, IsBoxOfNode, HasExchanged}
 
 -- the entries of node r of a grant among these
@@ -27,7 +27,7 @@ pub record HasNodeGoneOnBeside (old_machine new_machine : MachineFacts) (grant :
   pub history : new_machine.history ≡ old_machine.history ++ added_entries
   pub own : node_entries grant r added_entries ≡ new_entries
   pub beside : AreNotMadeAlone grant.user added_entries
-  pub calls : AreCallsOf grant.user new_entries
+  pub calls : AreCallsOfUser grant.user new_entries
   pub node : HasNode new_machine grant r
   pub few : length new_machine.history < HISTORY_LIMIT
 

@@ -12,10 +12,11 @@ use Rattle.rk_node.specs.Answering.{IsAwaitingAnswer}
 use Rattle.ce_lock.specs.declared.limits.TheConstants.{HISTORY_LIMIT}
 use Rattle.ce_machine.specs.Meanings.{MachineFacts}
 use Rattle.ce_script.specs.Rounds.{serial, asks_for_work, is_take, is_dispatch, IsTurn, has_work}
+use Rattle.ce_script.specs.Moments.{AreCallsOfUser}
 use Rattle.ce_cube.specs.Boxes.{IsHeldAs, IsStandIn, trace_node, trace_store}
 use Rattle.ce_cube.specs.Hearable.{calls_left}
 use Rattle.ce_cube.specs.Rounds.{IsPartOfRound}
-use Rattle.ce_cube.specs.Crews.{cube_dispatches_left, IsLawfulMachine, IsReadyBox, AreCallsOf, HasCrewGoneOn, CrewFacts}
+use Rattle.ce_cube.specs.Crews.{cube_dispatches_left, IsLawfulMachine, IsReadyBox, HasCrewGoneOn, CrewFacts}
 use Rattle.ce_daemon.specs.Peeks.{cube_grant}
 
 -- node r of this cube after the machine's history
@@ -54,7 +55,7 @@ pub record HasNodeGoneOn (old_machine new_machine : MachineFacts) (grant : Grant
     (new_entries : List Entry) : Type 0 where
   pub parts : new_machine.parts ≡ old_machine.parts
   pub history : new_machine.history ≡ old_machine.history ++ new_entries
-  pub calls : AreCallsOf grant.user new_entries
+  pub calls : AreCallsOfUser grant.user new_entries
   pub trace : view new_machine.history grant.number ≡ view old_machine.history grant.number
       ++ map (entry_inward grant.sub) new_entries
   pub node : HasNode new_machine grant r

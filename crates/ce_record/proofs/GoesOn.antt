@@ -1,7 +1,6 @@
 -- Calls of a cube that is held: its trace goes on, and it is held still.
 use Rattle.std.proofs.Common.{◌≡◌, ℕ, false, List, [], ◌∷◌, ◌++◌, map, Option, Some, None, IsSomeAnd, IsTrue, refl, ap, sym, ◌∙◌, subst, append-nil}
 use Rattle.std.specs.Prelude.{is_some}
-use Rattle.std.specs.List.{AllByRecursion}
 use Rattle.std.proofs.lemmas.Bool.{eq-eqb}
 use Rattle.ce_model.specs.declared.entry.Entry.{Entry}
 use Rattle.ce_model.specs.Node.{Call}
@@ -15,7 +14,7 @@ use Rattle.ce_solo.proofs.Projection.Held.{held-own}
 use Rattle.ce_solo.proofs.Projection.Invariant.{or_false}
 use Rattle.ce_solo.proofs.Projection.Kinds.{and_false}
 use Rattle.ce_solo.proofs.Projection.Law.{after-more, projected}
-use Rattle.ce_script.specs.Moments.{IsCallOfUser}
+use Rattle.ce_script.specs.Moments.{AreCallsOfUser}
 use Rattle.ce_record.specs.Laws.{TraceGoesOn, CubeStays}
 use Rattle.ce_record.proofs.HeldCubes.{own-user}
 
@@ -34,7 +33,7 @@ found-all h (entry ∷ made) number grant behind found =
     ∙ found-all (h ++ entry ∷ []) made number grant (behind ++ entry ∷ []) (found-more h entry number grant behind found)
     ∙ ap (λ behind. Some (grant, behind)) (one_further behind entry made)
 
-goes-on : (grant : CubeGrant) (behind made : List Entry) → is_over grant behind ≡ false → AllByRecursion (IsCallOfUser grant.user) made
+goes-on : (grant : CubeGrant) (behind made : List Entry) → is_over grant behind ≡ false → AreCallsOfUser grant.user made
     → trace_behind grant (behind ++ made) ≡ trace_behind grant behind ++ map (entry_inward grant.sub) made
 goes-on grant behind [] goes all = rw (append-nil behind) (sym (append-nil (trace_behind grant behind)))
 goes-on grant behind (entry ∷ made) goes all =
@@ -49,7 +48,7 @@ goes-on grant behind (entry ∷ made) goes all =
 pub trace_goes_on : TraceGoesOn
 trace_goes_on parts history user cube holds machine lawful goes made all =
     let was = (projected parts history machine lawful).held user cube holds in
-    let own = subst (λ user. AllByRecursion (IsCallOfUser user) made) (sym (own-user history user cube holds)) all in
+    let own = subst (λ user. AreCallsOfUser user made) (sym (own-user history user cube holds)) all in
     view-is (history ++ made) cube.number cube.grant (was.behind ++ made) (found-all history made cube.number cube.grant was.behind was.found)
     ∙ goes-on cube.grant was.behind made (was.over ∙ goes) own
     ∙ ap (λ t. t ++ map (entry_inward cube.grant.sub) made) (sym (view-is history cube.number cube.grant was.behind was.found))
@@ -62,7 +61,7 @@ IsHeldStill history user cube =
     IsSomeAnd (cube_held_by (after history) user) (λ now. (now.number ≡ cube.number) × (now.grant ≡ cube.grant) × (now.is_drained ≡ false))
 
 stays : (history made : List Entry) (user : ℕ) (cube : HeldCube) → cube_held_by (after history) user ≡ Some cube → cube.is_drained ≡ false
-    → AllByRecursion (IsCallOfUser user) made → IsHeldStill (history ++ made) user cube
+    → AreCallsOfUser user made → IsHeldStill (history ++ made) user cube
 stays history [] user cube holds goes all =
     subst (λ h. IsHeldStill h user cube) (sym (append-nil history))
     (subst (λ held. IsSomeAnd held (λ now. (now.number ≡ cube.number) × (now.grant ≡ cube.grant) × (now.is_drained ≡ false))) (sym holds) (refl, refl, goes))

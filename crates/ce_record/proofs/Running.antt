@@ -18,7 +18,7 @@ use Rattle.ce_host.specs.declared.command.Command.TheVariants.{Run, Recv}
 use Rattle.ce_host.specs.declared.answer.Answer.{Answer}
 use Rattle.ce_script.specs.Rounds.{RoundKind, IsRoundWithWork, IsRoundWithoutWork, joined_lists, AreTurnsOver}
 use Rattle.ce_script.specs.Commands.{IsRun, run_reply, RecvEnd, message_next, message_behind_rest, no_message, host_take, end_entries, end_rounds, recv_reply, IsRecv}
-use Rattle.ce_script.specs.Moments.{IsCallOfUser}
+use Rattle.ce_script.specs.Moments.{IsCallOfUser, AreCallsOfUser}
 use Rattle.ce_record.specs.CubeRounds.{IsRoundOf, IsRunOf, IsRecvOf}
 use Rattle.ce_record.specs.Run.{IsNextCommand}
 use Rattle.ce_record.specs.HeldCubes.{granted_cube, AreTurnsOverIn}
@@ -29,7 +29,7 @@ use Rattle.ce_record.proofs.Requests.{inward-is}
 use Rattle.ce_record.proofs.GoesOn.{trace_goes_on}
 use Rattle.ce_record.proofs.Turns.{joined-map, work-inward}
 
-calls_joined : (user : ℕ) (rounds : List (List Entry)) → AllByRecursion (AllByRecursion (IsCallOfUser user)) rounds → AllByRecursion (IsCallOfUser user) (joined_lists rounds)
+calls_joined : (user : ℕ) (rounds : List (List Entry)) → AllByRecursion (AreCallsOfUser user) rounds → AreCallsOfUser user (joined_lists rounds)
 calls_joined user [] all = tt
 calls_joined user (round ∷ rounds) all = all-append (IsCallOfUser user) round (joined_lists rounds) all.0 (calls_joined user rounds all.1)
 
@@ -56,17 +56,17 @@ module _ (kind : RoundKind) (parts : MachineParts) (history : List Entry) (user 
   without_work : (round : List Entry) → IsRoundOf kind user cube.grant false round → IsRoundWithoutWork kind cube.grant.dim (map inward round)
   without_work round is = (is.is_round, work-inward cube.grant.sub round ∙ is.works)
 
-  round_calls : (rounds : List (List Entry)) → AllByRecursion (IsRoundOf kind user cube.grant true) rounds → AllByRecursion (AllByRecursion (IsCallOfUser user)) rounds
-  round_calls rounds = all-weaker (IsRoundOf kind user cube.grant true) (AllByRecursion (IsCallOfUser user)) rounds (λ round is. is.calls)
+  round_calls : (rounds : List (List Entry)) → AllByRecursion (IsRoundOf kind user cube.grant true) rounds → AllByRecursion (AreCallsOfUser user) rounds
+  round_calls rounds = all-weaker (IsRoundOf kind user cube.grant true) (AreCallsOfUser user) rounds (λ round is. is.calls)
 
   -- the trace behind these calls
-  trace-is : (made : List Entry) → AllByRecursion (IsCallOfUser user) made → view (history ++ made) cube.number ≡ t ++ map inward made
+  trace-is : (made : List Entry) → AreCallsOfUser user made → view (history ++ made) cube.number ≡ t ++ map inward made
   trace-is made calls = trace_goes_on parts history user cube holds machine lawful goes made calls
 
-  own_all : (made : List Entry) → AllByRecursion (IsCallOfUser user) made → AllByRecursion (λ entry. entry.user ≡ user) made
+  own_all : (made : List Entry) → AreCallsOfUser user made → AllByRecursion (λ entry. entry.user ≡ user) made
   own_all made = all-weaker (IsCallOfUser user) (λ entry. entry.user ≡ user) made (λ entry call. call.0)
 
-  over : (made : List Entry) → AllByRecursion (IsCallOfUser user) made → AreTurnsOverIn parts (history ++ made) cube → AreTurnsOver own o (t ++ map inward made)
+  over : (made : List Entry) → AreCallsOfUser user made → AreTurnsOverIn parts (history ++ made) cube → AreTurnsOver own o (t ++ map inward made)
   over made calls turns = subst (AreTurnsOver own o) (trace-is made calls) turns
 
   -- the host's entries, as the cube knows them
@@ -82,9 +82,9 @@ module _ (kind : RoundKind) (parts : MachineParts) (history : List Entry) (user 
   -- ---- run
 
   module _ (count : ℕ) (found : LookResult) (answer : Answer) (made : List Entry) (is : IsRunOf kind user cube.grant count found made) where
-    run_calls : AllByRecursion (IsCallOfUser user) made
+    run_calls : AreCallsOfUser user made
     run_calls =
-        subst (AllByRecursion (IsCallOfUser user)) (sym is.entries) (
+        subst (AreCallsOfUser user) (sym is.entries) (
           (refl, refl),
           all-append (IsCallOfUser user) (joined_lists is.rounds) (is.last ++ host_entry user (Look found) ∷ [])
               (calls_joined user is.rounds (round_calls is.rounds is.with_work))
@@ -149,7 +149,7 @@ module _ (kind : RoundKind) (parts : MachineParts) (history : List Entry) (user 
   end_reply items (message_behind_rest round number) = refl
   end_reply items (no_message round found) = refl
 
-  end_calls : (end : RecvEnd) → AllByRecursion (IsRoundOf kind user cube.grant false) (end_rounds end) → AllByRecursion (IsCallOfUser user) (end_entries user end)
+  end_calls : (end : RecvEnd) → AllByRecursion (IsRoundOf kind user cube.grant false) (end_rounds end) → AreCallsOfUser user (end_entries user end)
   end_calls (message_next number) all = ((refl, refl), tt)
   end_calls (message_behind_rest round number) all =
       ((refl, refl), all-append (IsCallOfUser user) round (host_take user (Some number) ∷ []) all.0.calls ((refl, refl), tt))
@@ -166,14 +166,14 @@ module _ (kind : RoundKind) (parts : MachineParts) (history : List Entry) (user 
       ap₂ (λ first more. first ∷ more) (take_is None)
       (map-append inward round (looks user rounds) ∙ ap (λ more. map inward round ++ more) (looks-inward rounds))
 
-  looks_calls : (rounds : List (List Entry)) → AllByRecursion (IsRoundOf kind user cube.grant true) rounds → AllByRecursion (IsCallOfUser user) (looks user rounds)
+  looks_calls : (rounds : List (List Entry)) → AllByRecursion (IsRoundOf kind user cube.grant true) rounds → AreCallsOfUser user (looks user rounds)
   looks_calls [] all = tt
   looks_calls (round ∷ rounds) all = ((refl, refl), all-append (IsCallOfUser user) round (looks user rounds) all.0.calls (looks_calls rounds all.1))
 
   module _ (count : ℕ) (end : RecvEnd) (answer : Answer) (made : List Entry) (is : IsRecvOf kind user cube.grant count end made) where
-    recv_calls : AllByRecursion (IsCallOfUser user) made
+    recv_calls : AreCallsOfUser user made
     recv_calls =
-        subst (AllByRecursion (IsCallOfUser user)) (sym is.entries)
+        subst (AreCallsOfUser user) (sym is.entries)
         ((refl, refl), all-append (IsCallOfUser user) (looks user is.rounds) (end_entries user end) (looks_calls is.rounds is.with_work) (end_calls end is.without_work))
 
     recv_done : recv_reply (sent_to_host parts cube (t ++ map inward made)) end ≡ Some answer

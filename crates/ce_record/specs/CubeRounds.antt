@@ -9,12 +9,12 @@ use Rattle.ce_model.specs.Renaming.{CubeGrant, entry_inward}
 use Rattle.ce_model.specs.Literals.{host_entry}
 use Rattle.ce_script.specs.Rounds.{RoundKind, IsRound, has_work, joined_lists}
 use Rattle.ce_script.specs.Commands.{RecvEnd, host_take, end_entries, end_rounds}
-use Rattle.ce_script.specs.Moments.{IsCallOfUser}
+use Rattle.ce_script.specs.Moments.{AreCallsOfUser}
 
 -- a round of a user's cube, by which a node is given work or none is
 pub record IsRoundOf (kind : RoundKind) (user : ℕ) (grant : CubeGrant) (gives_work : Bool)
     (round : List Entry) : Type 0 where
-  pub calls : AllByRecursion (IsCallOfUser user) round
+  pub calls : AreCallsOfUser user round
   pub is_round : IsRound kind grant.dim (map (entry_inward grant.sub) round)
   pub works : has_work round ≡ gives_work
 

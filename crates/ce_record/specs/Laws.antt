@@ -27,7 +27,7 @@ use Rattle.ce_script.specs.declared.record.Record.{Record}
 use Rattle.ce_script.specs.declared.script.Script.{Script}
 use Rattle.ce_script.specs.Bounds.{IsWithinLimits}
 use Rattle.ce_script.specs.Rounds.{RoundKind, serial}
-use Rattle.ce_script.specs.Moments.{user_moments, moment_entries, holding, own_entries, IsCallOfUser}
+use Rattle.ce_script.specs.Moments.{user_moments, moment_entries, holding, own_entries, AreCallsOfUser}
 use Rattle.ce_script.specs.Commands.{run_reply, RecvEnd, message_reply, recv_reply, freecube_entries}
 use Rattle.ce_script.specs.Doings.{Doing, command_with_answer, holding_behind}
 use Rattle.ce_script.specs.Legal.{IsLegal, IsRecordOfScript, EachUser, machine_of}
@@ -252,7 +252,7 @@ OfCube P = OfHolder
 abbrev pub TraceGoesOn : Type 0
 TraceGoesOn = OfCube
     (λ parts history user cube. (new_entries : List Entry)
-    → AllByRecursion (IsCallOfUser user) new_entries
+    → AreCallsOfUser user new_entries
     → view (history ++ new_entries) cube.number ≡ view history cube.number
     ++ map (entry_inward cube.grant.sub) new_entries)
 
@@ -260,7 +260,7 @@ TraceGoesOn = OfCube
 abbrev pub CubeStays : Type 0
 CubeStays = OfCube
     (λ parts history user cube. (new_entries : List Entry)
-    → AllByRecursion (IsCallOfUser user) new_entries
+    → AreCallsOfUser user new_entries
     → IsSomeAnd (cube_held_by (after (history ++ new_entries)) user)
     (λ later. (later.number ≡ cube.number) × (later.grant ≡ cube.grant)
     × (later.is_drained ≡ false)))

@@ -34,7 +34,7 @@ use Rattle.ce_host.specs.declared.command.Command.{Command}
 use Rattle.ce_host.specs.declared.command.Command.TheVariants.{Getcube, Peek}
 use Rattle.ce_host.specs.declared.answer.Answer.{Answer}
 use Rattle.ce_cube.specs.Boxes.{IsHeldAs, IsInStep, trace_store}
-use Rattle.ce_cube.specs.Crews.{IsLawfulMachine, IsHostInStep, IsCrewInStep, HasCrewGoneOn, box_at, CrewFacts, AreCallsOf}
+use Rattle.ce_cube.specs.Crews.{IsLawfulMachine, IsHostInStep, IsCrewInStep, HasCrewGoneOn, box_at, CrewFacts}
 use Rattle.ce_daemon.specs.Peeks.{cube_grant}
 use Rattle.ce_cube.proofs.Adds.{others-keep}
 use Rattle.ce_cube.proofs.Fronts.{mix-calls}
@@ -52,6 +52,7 @@ use Rattle.ce_cube.proofs.Hosts.{hosts-fit}
 use Rattle.ce_record.specs.Requests.{wants_cube, command_place}
 use Rattle.ce_record.proofs.AtOnce.{no_place}
 use Rattle.ce_script.specs.Commands.{kill_reply}
+use Rattle.ce_script.specs.Moments.{AreCallsOfUser}
 use Rattle.ce_record.specs.Requests.{command_request, entry_reply, hearing_reply}
 use Rattle.ce_record.specs.Run.{IsNextCommand}
 use Rattle.ce_record.proofs.Requests.{asked}
@@ -183,7 +184,7 @@ module _ (before behind : MachineFacts) (crew crew' : CrewFacts) (call : Call Bo
   gone-on kind stands =
       let to_parts = sym called.exchange.parts in
       let grant_is = ap (λ (c : CrewFacts). c.grant) called.crew_is in
-      let of_cube : AreCallsOf crew.grant.user (host_entry crew.grant.user called.exchange.what ∷ []) =
+      let of_cube : AreCallsOfUser crew.grant.user (host_entry crew.grant.user called.exchange.what ∷ []) =
       ((refl, ap (λ what. is_some (recorded_call what)) (sym what-is) ∙ answers-call _ _ HOST (with_places_outward held.cube.grant host.inner)), tt) in
       record {
         all_entries = host_entry crew.grant.user called.exchange.what ∷ [];

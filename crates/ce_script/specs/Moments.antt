@@ -1,5 +1,6 @@
 -- A user's part of the history of the machine: its entries, and the cube that it holds by them.
 use Rattle.std.specs.Prelude.{◌≡◌, ℕ, ◌==◌, List, [], ◌∷◌, ◌++◌, map, filter, fold, Option, Some, None, option_map, is_some, IsTrue}
+use Rattle.std.specs.List.{AllByRecursion}
 use Rattle.ce_model.specs.declared.entry.Entry.{Entry}
 use Rattle.ce_model.specs.declared.entry.What.TheVariants.{Getcube, Peek, Drain, Freecube}
 use Rattle.ce_model.specs.Renaming.{CubeGrant, entry_inward}
@@ -33,6 +34,10 @@ own_entries user entries = filter (λ entry. entry.user == user) entries
 -- the entry is a call of this user's cube
 abbrev pub IsCallOfUser : ℕ → Entry → Type 0
 IsCallOfUser user entry = (entry.user ≡ user) × IsTrue (is_some (recorded_call entry.what))
+
+-- each of these entries is one
+abbrev pub AreCallsOfUser : ℕ → List Entry → Type 0
+AreCallsOfUser user = AllByRecursion (IsCallOfUser user)
 
 -- ---- the cube that a user holds
 
