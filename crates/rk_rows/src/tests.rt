@@ -24,13 +24,18 @@ fn image(alloc: Global, text: &str) -> Result<Image, Fail> {
     Ok(assemble(alloc, text.as_bytes())?)
 }
 
-/// The node once the commands of a row were made.
-fn driven_node(alloc: Global, row: &Row) -> Result<LoneNode, Fail> {
+/// The images of a row.
+fn row_images(alloc: Global, row: &Row) -> Result<Vec<Image>, Fail> {
     let mut images = Vec::new(alloc);
     for text in row.images {
         images.push(image(alloc, text)?)?;
     }
-    let mut node = LoneNode::new(alloc, images, true)?;
+    Ok(images)
+}
+
+/// The node once the commands of a row were made.
+fn driven_node(alloc: Global, row: &Row) -> Result<LoneNode, Fail> {
+    let mut node = LoneNode::new(alloc, row_images(alloc, row)?, true)?;
     for command in row.commands {
         match *command {
             RowCommand::Spawn { image, pid } => {

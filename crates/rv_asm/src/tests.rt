@@ -71,9 +71,10 @@ fn check_lines(rt: &impl Abort, alloc: Global, rows: &[(&str, u32)]) -> Result<(
     Ok(())
 }
 
-/// Each statement once. The words are those of another assembler for RV32I.
+/// Upper numbers, jumps, branches, loads and stores once each. These words, and those of the next
+/// rows, are those of another assembler for RV32I.
 #[test]
-fn statements(rt: HostRuntime) -> Result<(), Fail> {
+fn jumps_branches_and_accesses(rt: HostRuntime) -> Result<(), Fail> {
     let rows = [
         ("x: lui a0, 1048575", 0xFFFF_F537),
         ("auipc t6, 0", 0x0000_0F97),
@@ -93,7 +94,15 @@ fn statements(rt: HostRuntime) -> Result<(), Fail> {
         ("sb s4, -2048(s5)", 0x814A_8023),
         ("sh s6, 2047(s7)", 0x7F6B_9FA3),
         ("sw s8, 31(s9)", 0x018C_AFA3),
-        ("addi s10, zero, -2048", 0x8000_0D13),
+    ];
+    check_lines(&rt, rt.alloc(), &rows)
+}
+
+/// Operations, and the statements without operands and for other ones, once each.
+#[test]
+fn operations_and_other_statements(rt: HostRuntime) -> Result<(), Fail> {
+    let rows = [
+        ("x: addi s10, zero, -2048", 0x8000_0D13),
         ("slti t2, t3, 2047", 0x7FFE_2393),
         ("sltiu t4, t5, -1", 0xFFFF_3E93),
         ("xori a0, a0, 1", 0x0015_4513),
@@ -116,8 +125,8 @@ fn statements(rt: HostRuntime) -> Result<(), Fail> {
         ("ecall", 0x0000_0073),
         ("ebreak", 0x0010_0073),
         ("mv a0, a1", 0x0005_8513),
-        ("j x", 0xF5DF_F06F),
-        ("call x", 0xF59F_F0EF),
+        ("j x", 0xFA5F_F06F),
+        ("call x", 0xFA1F_F0EF),
         ("ret", 0x0000_8067),
         ("nop", 0x0000_0013),
     ];
@@ -303,9 +312,9 @@ fn faults_in_order(rt: HostRuntime) -> Result<(), Fail> {
     check_refusals(&rt, rt.alloc(), &rows)
 }
 
-/// The choices of the language, each with a text that is refused.
+/// The choices of the language on words and operands, each with a text that is refused.
 #[test]
-fn refused_forms(rt: HostRuntime) -> Result<(), Fail> {
+fn refused_operands(rt: HostRuntime) -> Result<(), Fail> {
     let rows = [
         // A statement's word ends at a blank.
         ("nop,", 1, AsmKind::UnknownWord),
@@ -322,6 +331,14 @@ fn refused_forms(rt: HostRuntime) -> Result<(), Fail> {
         (".byte", 1, AsmKind::Operands),
         // A number out of range that `.equ` gave comes before an unknown name.
         (".equ big, 256\n.byte nowhere, big", 2, AsmKind::BadNumber),
+    ];
+    check_refusals(&rt, rt.alloc(), &rows)
+}
+
+/// The choices of the language on labels and names, each with a text that is refused.
+#[test]
+fn refused_names(rt: HostRuntime) -> Result<(), Fail> {
+    let rows = [
         // One colon, behind a name.
         ("a: b: nop", 1, AsmKind::UnknownWord),
         ("a: nop\na: b: nop", 2, AsmKind::NameTaken),
@@ -335,20 +352,11 @@ fn refused_forms(rt: HostRuntime) -> Result<(), Fail> {
         ("x: nop\ny: .equ x, a:b", 2, AsmKind::UnknownWord),
         ("x: nop\n.equ x, a:b", 2, AsmKind::UnknownWord),
         (".equ start, 0x10004\n.byte 1, 2, 3", 0, AsmKind::Entry),
-        // Numbers.
-        ("li a0, -0x1", 1, AsmKind::BadNumber),
-        ("li a0, +1", 1, AsmKind::BadNumber),
-        ("li a0, 0X1", 1, AsmKind::BadNumber),
-        ("li a0, 0x", 1, AsmKind::BadNumber),
-        ("li a0, -", 1, AsmKind::BadNumber),
-        ("li a0, 4294967296", 1, AsmKind::BadNumber),
-        ("li a0, -2147483649", 1, AsmKind::BadNumber),
         // A label is no number, and a number no label.
         (".equ x, 1\nnop\nj x", 3, AsmKind::UnknownName),
         (".word x\n.equ x, 1", 1, AsmKind::UnknownName),
         (".equ x, x", 1, AsmKind::UnknownName),
         ("x: addi a0, a0, x", 1, AsmKind::UnknownName),
-        (".word 1x", 1, AsmKind::BadNumber),
         // A name of 33 characters is none.
         (
             "aaaaaaaaaaaaaaaaaaaaaaaaaaaaaaaaa: nop",
@@ -365,9 +373,25 @@ fn refused_forms(rt: HostRuntime) -> Result<(), Fail> {
     check_refusals(&rt, rt.alloc(), &rows)
 }
 
-/// The choices of the language, each with a text that is accepted.
+/// The choices of the language on numbers, each with a text that is refused.
 #[test]
-fn accepted_forms(rt: HostRuntime) -> Result<(), Fail> {
+fn refused_numbers(rt: HostRuntime) -> Result<(), Fail> {
+    let rows = [
+        ("li a0, -0x1", 1, AsmKind::BadNumber),
+        ("li a0, +1", 1, AsmKind::BadNumber),
+        ("li a0, 0X1", 1, AsmKind::BadNumber),
+        ("li a0, 0x", 1, AsmKind::BadNumber),
+        ("li a0, -", 1, AsmKind::BadNumber),
+        ("li a0, 4294967296", 1, AsmKind::BadNumber),
+        ("li a0, -2147483649", 1, AsmKind::BadNumber),
+        (".word 1x", 1, AsmKind::BadNumber),
+    ];
+    check_refusals(&rt, rt.alloc(), &rows)
+}
+
+/// The choices of the language on operands and names, each with a text that is accepted.
+#[test]
+fn accepted_operands_and_names(rt: HostRuntime) -> Result<(), Fail> {
     let alloc = rt.alloc();
     // Blanks may stand round brackets and before commas.
     check_words(&rt, alloc, "lw a0 , 4 ( sp )", &[0x0041_2503])?;
@@ -393,7 +417,13 @@ fn accepted_forms(rt: HostRuntime) -> Result<(), Fail> {
         "aaaaaaaaaaaaaaaaaaaaaaaaaaaaaaaa: j aaaaaaaaaaaaaaaaaaaaaaaaaaaaaaaa",
         &[0x0000_006F],
     )?;
-    // A label may lie at a half word.
+    Ok(())
+}
+
+/// A label may lie at a half word, and the label `start` is the entry.
+#[test]
+fn accepted_labels(rt: HostRuntime) -> Result<(), Fail> {
+    let alloc = rt.alloc();
     check_bytes(
         &rt,
         alloc,

@@ -68,7 +68,7 @@ fn zero_bytes(rt: HostRuntime) -> Result<(), Fail> {
 }
 
 #[test]
-fn faults(rt: HostRuntime) -> Result<(), Fail> {
+fn faults_of_lengths(rt: HostRuntime) -> Result<(), Fail> {
     for (bytes, fault) in [
         (&RKI1[..35], ImageFault::Length),
         (&RKI1[..3], ImageFault::Short),
@@ -77,6 +77,11 @@ fn faults(rt: HostRuntime) -> Result<(), Fail> {
     ] {
         assert_eq!(rt; read(rt.alloc(), bytes).err(), Some(fault));
     }
+    Ok(())
+}
+
+#[test]
+fn faults_of_headers(rt: HostRuntime) -> Result<(), Fail> {
     for (magic, entry, loaded_len, zero, fault) in [
         // before TooLarge
         (b"RKI0", 0, 122_881, 0, ImageFault::Magic),
@@ -101,6 +106,11 @@ fn faults(rt: HostRuntime) -> Result<(), Fail> {
             "{entry} {loaded_len} {zero}"
         );
     }
+    Ok(())
+}
+
+#[test]
+fn faults_of_parts(rt: HostRuntime) -> Result<(), Fail> {
     for (entry, zero, fault) in [
         // before Entry
         (0, 122_861, ImageFault::TooLarge),

@@ -191,15 +191,23 @@ const INVALID: [Inst; 16] = [
 ];
 
 #[test]
-fn words(rt: HostRuntime) {
+fn words_of_none(rt: HostRuntime) {
     for word in &NONE {
         assert_eq!(rt; decode(*word), None, "at {word}");
     }
+}
+
+#[test]
+fn words_of_instructions(rt: HostRuntime) {
     for (word, inst) in &ROWS {
         assert_eq!(rt; decode(*word), Some(*inst), "at {word}");
         assert!(rt; is_valid(inst), "at {word}");
         assert_eq!(rt; encode(inst), *word, "at {word}");
     }
+}
+
+#[test]
+fn instructions_without_a_word(rt: HostRuntime) {
     for inst in &INVALID {
         assert!(rt; !is_valid(inst), "at {inst:?}");
     }

@@ -61,7 +61,7 @@ fn check_results(rt: &impl Abort, memory: &mut PrivateMemory, rows: &[(u32, u32,
 }
 
 #[test]
-fn operations_on_registers(rt: HostRuntime) -> Result<(), Fail> {
+fn sums_and_comparisons_of_registers(rt: HostRuntime) -> Result<(), Fail> {
     let mut memory = PrivateMemory::new(rt.alloc())?;
     let rows = [
         // add
@@ -74,11 +74,6 @@ fn operations_on_registers(rt: HostRuntime) -> Result<(), Fail> {
         (0x402081B3, 1, ONES, 2),
         (0x402081B3, MIN, 1, MAX),
         (0x402081B3, 0, MIN, MIN),
-        // sll
-        (0x002091B3, 3, 0, 3),
-        (0x002091B3, 3, 31, MIN),
-        (0x002091B3, ONES, 32, ONES),
-        (0x002091B3, 1, 33, 2),
         // slt
         (0x0020A1B3, ONES, 0, 1),
         (0x0020A1B3, 0, ONES, 0),
@@ -91,9 +86,20 @@ fn operations_on_registers(rt: HostRuntime) -> Result<(), Fail> {
         (0x0020B1B3, MIN, MAX, 0),
         (0x0020B1B3, MAX, MIN, 1),
         (0x0020B1B3, 1, 1, 0),
-        // xor
-        (0x0020C1B3, ONES, MAX, MIN),
-        (0x0020C1B3, 0xF0F0_F0F0, 0xFF00_FF00, 0x0FF0_0FF0),
+    ];
+    check_results(&rt, &mut memory, &rows);
+    Ok(())
+}
+
+#[test]
+fn shifts_and_bitwise_operations_of_registers(rt: HostRuntime) -> Result<(), Fail> {
+    let mut memory = PrivateMemory::new(rt.alloc())?;
+    let rows = [
+        // sll
+        (0x002091B3, 3, 0, 3),
+        (0x002091B3, 3, 31, MIN),
+        (0x002091B3, ONES, 32, ONES),
+        (0x002091B3, 1, 33, 2),
         // srl
         (0x0020D1B3, MIN, 0, MIN),
         (0x0020D1B3, MIN, 31, 1),
@@ -104,6 +110,9 @@ fn operations_on_registers(rt: HostRuntime) -> Result<(), Fail> {
         (0x4020D1B3, MIN, 31, ONES),
         (0x4020D1B3, MAX, 31, 0),
         (0x4020D1B3, MIN, 33, 0xC000_0000),
+        // xor
+        (0x0020C1B3, ONES, MAX, MIN),
+        (0x0020C1B3, 0xF0F0_F0F0, 0xFF00_FF00, 0x0FF0_0FF0),
         // or
         (0x0020E1B3, MIN, 1, 0x8000_0001),
         (0x0020E1B3, 0xF0F0_F0F0, 0x0F0F_0F0F, ONES),
@@ -116,7 +125,7 @@ fn operations_on_registers(rt: HostRuntime) -> Result<(), Fail> {
 }
 
 #[test]
-fn operations_on_numbers(rt: HostRuntime) -> Result<(), Fail> {
+fn sums_and_comparisons_with_numbers(rt: HostRuntime) -> Result<(), Fail> {
     let mut memory = PrivateMemory::new(rt.alloc())?;
     let rows = [
         // addi by -1, 1, -2,048 and 2,047
@@ -139,16 +148,15 @@ fn operations_on_numbers(rt: HostRuntime) -> Result<(), Fail> {
         (0xFFF0B193, ONES, 0, 0),
         (0x0010B193, 0, 0, 1),
         (0x0010B193, ONES, 0, 0),
-        // xori -1
-        (0xFFF0C193, 0, 0, ONES),
-        (0xFFF0C193, MAX, 0, MIN),
-        // ori -1 and 1
-        (0xFFF0E193, 0, 0, ONES),
-        (0x0010E193, MIN, 0, 0x8000_0001),
-        // andi -1, 1 and -2,048
-        (0xFFF0F193, MIN, 0, MIN),
-        (0x0010F193, ONES, 0, 1),
-        (0x8000F193, ONES, 0, 0xFFFF_F800),
+    ];
+    check_results(&rt, &mut memory, &rows);
+    Ok(())
+}
+
+#[test]
+fn shifts_and_bitwise_operations_by_numbers(rt: HostRuntime) -> Result<(), Fail> {
+    let mut memory = PrivateMemory::new(rt.alloc())?;
+    let rows = [
         // slli by 0 and 31
         (0x00009193, ONES, 0, ONES),
         (0x01F09193, ONES, 0, MIN),
@@ -159,6 +167,16 @@ fn operations_on_numbers(rt: HostRuntime) -> Result<(), Fail> {
         (0x4000D193, MIN, 0, MIN),
         (0x41F0D193, MIN, 0, ONES),
         (0x41F0D193, MAX, 0, 0),
+        // xori -1
+        (0xFFF0C193, 0, 0, ONES),
+        (0xFFF0C193, MAX, 0, MIN),
+        // ori -1 and 1
+        (0xFFF0E193, 0, 0, ONES),
+        (0x0010E193, MIN, 0, 0x8000_0001),
+        // andi -1, 1 and -2,048
+        (0xFFF0F193, MIN, 0, MIN),
+        (0x0010F193, ONES, 0, 1),
+        (0x8000F193, ONES, 0, 0xFFFF_F800),
     ];
     check_results(&rt, &mut memory, &rows);
     Ok(())
@@ -355,6 +373,12 @@ fn stops(rt: HostRuntime) -> Result<(), Fail> {
             PRIVATE_START,
         );
     }
+    Ok(())
+}
+
+#[test]
+fn fetches_outside(rt: HostRuntime) -> Result<(), Fail> {
+    let mut memory = PrivateMemory::new(rt.alloc())?;
     for start in [0xFFFC, 0x1_0002, 0x3_0000, 0x8000_0000] {
         let mut pc = start;
         let event = step(&mut three_registers(0, 0, 0), &mut pc, &mut memory);
