@@ -3,4 +3,4 @@
 # bench/book.txt, which is put into a crate of a copy and run there unproved.
 . "$(dirname "$0")/copy.sh"
 go_to_copy book 'book_bench may_wait=2: ce_model ce_lock atomic_table' rv_model ce_model ce_lock
-rt try
+rt try --seconds 600
